@@ -1,0 +1,3 @@
+pub mod Barriers
+pub mod Faults
+pub mod Doses

@@ -1,0 +1,16 @@
+pub mod Chain
+pub mod Single
+pub mod Held
+pub mod Carry
+pub mod Steps
+pub mod Bounds
+pub mod Around
+pub mod Frame
+pub mod Scan
+pub mod Shade
+pub mod Order
+pub mod Fresh
+pub mod Turn
+pub mod Colours
+pub mod Tell
+pub mod Facts

@@ -1,0 +1,9 @@
+pub mod Rules
+pub mod Book
+pub mod Tracing
+pub mod History
+pub mod Promise
+pub mod Statements
+pub mod Planning
+pub mod Barriers
+pub mod Cases
