@@ -28,6 +28,8 @@ pub mod ReachableCount
 pub mod Room
 pub mod MainPromise
 pub mod WorkedCases
+pub mod Following
 pub mod Statements
 pub mod Answered
 pub mod Figures
+pub mod BookChains

@@ -7,3 +7,4 @@ pub mod Statements
 pub mod Planning
 pub mod Barriers
 pub mod Cases
+pub mod Chains
