@@ -16,10 +16,22 @@ pub enum StoreFault {
     NoSuchRegister,
     // The word layer refused.
     Word(WordFault),
+    // A link is not 0 to n − 1, where the kind has n links.
+    NoSuchLink,
+    // A record is made of another number of registers than the kind has links.
+    WrongLinkCount,
     // The weight or the mark of a dose is out of range.
     BadDose,
     // The store is closed.
     Closed,
+    // A register holds no record.
+    NoRecord,
+    // Every nursery place is used.
+    NurseryFull,
+    // The free slots do not exceed the nursery's records.
+    NoRoom,
+    // A write needs a note, and as many notes stand as there are slots.
+    NotesFull,
 }
 
 pub impl From<WordFault> for StoreFault as StoreFaultFromWord {
@@ -40,8 +52,14 @@ impl StoreFault {
             StoreFault::TableShort => 2,
             StoreFault::NoSuchRegister => 3,
             StoreFault::Word(e) => e.number(),
+            StoreFault::NoSuchLink => 5,
+            StoreFault::WrongLinkCount => 6,
             StoreFault::BadDose => 7,
             StoreFault::Closed => 20,
+            StoreFault::NoRecord => 21,
+            StoreFault::NurseryFull => 22,
+            StoreFault::NoRoom => 23,
+            StoreFault::NotesFull => 24,
         }
     }
 }

@@ -2,11 +2,12 @@
 use Prim.Native.Nat.{ℕ}
 use Rattle.kinds.specs.Faults.{store-refusal}
 use Rattle.kinds.specs.declared.fault.StoreFault.{StoreFault}
-use Rattle.kinds.specs.declared.fault.StoreFault.the-variants.{SizeOutOfRange, TableShort, NoSuchRegister, Word, BadDose, Closed}
+use Rattle.kinds.specs.declared.fault.StoreFault.the-variants.{SizeOutOfRange, TableShort, NoSuchRegister, Word, NoSuchLink, WrongLinkCount, BadDose, Closed, NoRecord, NurseryFull, NoRoom, NotesFull}
 use Rattle.sheet.specs.declared.fault.SheetFault.{SheetFault}
 use Rattle.sheet.specs.declared.fault.SheetFault.the-variants.{Format, OutOfTurn, Store}
 use Rattle.sheet.specs.Requests.{format-refusal, format-column}
 
+-- the number: a refusal of the store keeps its own
 abbrev pub sheet-refusal : SheetFault → ℕ
 sheet-refusal (Format e) = format-refusal e
 sheet-refusal OutOfTurn = 34
@@ -18,8 +19,14 @@ store-layer SizeOutOfRange = 2
 store-layer TableShort = 2
 store-layer NoSuchRegister = 2
 store-layer (Word e) = 3
+store-layer NoSuchLink = 2
+store-layer WrongLinkCount = 2
 store-layer BadDose = 2
 store-layer Closed = 2
+store-layer NoRecord = 2
+store-layer NurseryFull = 2
+store-layer NoRoom = 2
+store-layer NotesFull = 2
 
 -- the layer: 1 the sheet, 2 the store, 3 the words
 abbrev pub sheet-layer : SheetFault → ℕ

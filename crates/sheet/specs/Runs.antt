@@ -6,7 +6,7 @@ use lib.IntN.{ℤ, pos}
 use Rattle.std.specs.declared.result.Result.{Result}
 use Rattle.std.specs.declared.result.Result.the-variants.{Ok, Err}
 use Rattle.rules.specs.Rules.{snapshot, update}
-use Rattle.store.specs.State.{opened}
+use Rattle.registers.specs.State.{opened}
 use Rattle.sheet.specs.declared.fault.SheetFault.{SheetFault}
 use Rattle.sheet.specs.declared.run.Opening.{Opening}
 use Rattle.sheet.specs.declared.run.Opening.the-variants.{WithSnapshot, WithUpdate}

@@ -8,8 +8,8 @@ use lib.ListN.{take, replicate}
 use Rattle.std.specs.declared.result.Result.{Result}
 use Rattle.std.specs.declared.result.Result.the-variants.{Ok, Err}
 use Rattle.rules.specs.Rules.{Barrier, Call, load, empty, copy, same, look, Answer, refused, done, gave, snapshot, update}
-use Rattle.store.specs.declared.sizes.Sizes.{Sizes}
-use Rattle.store.specs.State.{State, after, answer, opened}
+use Rattle.registers.specs.declared.sizes.Sizes.{Sizes}
+use Rattle.registers.specs.State.{State, after, answer, opened}
 use Rattle.sheet.specs.declared.command.Command.{Command}
 use Rattle.sheet.specs.declared.command.Command.the-variants.{OpenSnapshot, OpenUpdate, Load, Empty, Copy, Same, Look}
 use Rattle.sheet.specs.declared.request.FormatFault.{FormatFault}
@@ -41,6 +41,7 @@ register-count = 8
 abbrev pub sizes-asked : ℤ → ℤ → ℤ → Sizes
 sizes-asked s y k = record { slots = s; places = y; registers = pos register-count; scans = k }
 
+-- what a command with its three numbers asks for; a number that it does not use is passed over
 abbrev pub order : Command → ℤ → ℤ → ℤ → Order
 order OpenSnapshot a b c = opening snapshot (sizes-asked a b c)
 order OpenUpdate a b c = opening update (sizes-asked a b c)

@@ -7,9 +7,9 @@ ghost use lib.IntN.{pos};
 ghost use Prim.Native.Nat.{ℕ, _+_, _≤_, min};
 ghost use Rattle.std.specs.Of.Vec.{vec-items};
 ghost use Rattle.std.specs.Results.{Cases, isOk};
-ghost use Rattle.store.specs.Answers.{seen-values, seen-in-range};
-ghost use Rattle.store.specs.State.{opened};
-ghost use Rattle.store.specs.View.{view};
+ghost use Rattle.registers.specs.Answers.{seen-values, seen-in-range};
+ghost use Rattle.registers.specs.State.{opened};
+ghost use Rattle.registers.specs.View.{view};
 ghost use Rattle.sheet.specs.Answers.{all-fit, row-bytes};
 ghost use Rattle.sheet.specs.Lines.{lines};
 ghost use Rattle.sheet.specs.Runs.{row-of-result, fits-result, state-after-opening, reply-to-opening, state-after-asked, reply-to-asked, written-after};
@@ -29,10 +29,10 @@ use kinds::barrier::Snapshot;
 use kinds::barrier::SnapshotBarrier;
 use kinds::barrier::Update;
 use kinds::barrier::UpdateBarrier;
+use registers::seen::Seen;
+use registers::sizes::Sizes;
+use registers::store::Store;
 use std::alloc::Global;
-use store::seen::Seen;
-use store::sizes::Sizes;
-use store::store::Store;
 
 // An open that a line asks for, by its barrier.
 #[derive(Clone, Copy)]

@@ -1,4 +1,10 @@
 pub mod Opening
 pub mod State
 pub mod Answers
+pub mod Meaning
 pub mod View
+pub mod Lent
+pub mod Evacuating
+pub mod Carrying
+pub mod Scans
+pub mod Collecting

@@ -1,11 +1,15 @@
--- Opening a store: which sizes are in range, which tables are long enough, and what a new store holds.
-use mathlib.Core.Bool.{Bool, true, false, cond, _&&_}
-use Prim.Native.Nat.{ℕ, _≤_}
-use lib.Dec.{leb, eqb}
+-- Opening a store: which sizes are in range, and which tables are long enough.
+use mathlib.Core.Bool.{Bool, false, cond, _&&_}
+use Prim.Native.Nat.{ℕ}
+use lib.Dec.{leb}
 use lib.IntN.{ℤ, pos, negsuc}
+use lib.ListN.{length}
+use denote.Ref.{now}
 use Rattle.std.specs.declared.option.Option.{Option}
 use Rattle.std.specs.declared.option.Option.the-variants.{Some, None}
 use Rattle.store.specs.declared.sizes.Sizes.{Sizes}
+use Rattle.store.specs.declared.heap.Limits.{Limits}
+use Rattle.store.specs.declared.heap.tables.Tables.{Tables}
 
 -- a whole number from 1 to n, and the number that it is
 abbrev pub from-one-to : ℕ → ℤ → Bool
@@ -24,10 +28,25 @@ abbrev pub sizes-in-range : Sizes → Bool
 sizes-in-range z =
     from-one-to 16384 (z .slots) && (from-one-to 1024 (z .places) && (from-one-to 64 (z .registers) && from-one-to 16384 (z .scans)))
 
--- the register table has a place for each register
-abbrev pub tables-long : Sizes → ℕ → Bool
-tables-long z table = leb (natural (z .registers)) table
+-- the sizes as natural numbers, if each is in its range
+abbrev pub limits-asked : Sizes → Limits
+limits-asked z = record { slots = natural (z .slots); places = natural (z .places); registers = natural (z .registers); scans = natural (z .scans) }
+
+abbrev pub limits-of : Sizes → Option Limits
+limits-of z = cond (sizes-in-range z) (Some (limits-asked z)) None
+
+-- each table has as many places as s slots, y nursery places and r registers ask for
+abbrev pub tables-long : {X : Type 0} → ℕ → ℕ → ℕ → Tables X → Bool
+tables-long s y r t =
+    leb y (length (now (t .nursery)))
+    && (leb s (length (now (t .slots)))
+    && (leb r (length (now (t .registers)))
+    && (leb y (length (now (t .forward)))
+    && (leb s (length (now (t .notes)))
+    && (leb s (length (now (t .next)))
+    && (leb s (length (now (t .previous)))
+    && leb s (length (now (t .stamp)))))))))
 
 -- what `why` answers: 0 open, 1 a size out of range, 2 a short table; the sizes are tested first
-abbrev pub why-of : Sizes → ℕ → ℕ
-why-of z table = cond (sizes-in-range z) (cond (tables-long z table) 0 2) 1
+abbrev pub why-of : {X : Type 0} → Sizes → Tables X → ℕ
+why-of z t = cond (sizes-in-range z) (cond (tables-long (natural (z .slots)) (natural (z .places)) (natural (z .registers)) t) 0 2) 1

@@ -1,7 +1,9 @@
-// The store: registers of words over lent tables, and its calls.
+// The store: records in a nursery and an old area over lent tables, and its calls.
+pub mod counts;
 pub mod heap;
+pub mod records;
+pub mod rows;
 pub mod seen;
 pub mod sizes;
+pub mod stepped;
 pub mod store;
-#[cfg(test)]
-mod tests;

@@ -1,7 +1,7 @@
 use mathlib.Core.Path.{sym, _∙_}
-use Rattle.std.specs.Of.Vec.{vec-items}
-use Rattle.store.specs.View.{view}
 use mathlib.Core.List.{_++_}
+use Rattle.std.specs.Of.Vec.{vec-items}
+use Rattle.registers.specs.View.{view}
 use Rattle.sheet.specs.Lines.{lines}
 use Rattle.sheet.specs.Runs.{row-of-result}
 use Rattle.sheet.specs.Sheets.{running, written-for}

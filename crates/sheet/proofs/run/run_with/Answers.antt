@@ -1,7 +1,7 @@
 use mathlib.Core.Path.{_≡_, sym, _∙_}
 use Rattle.std.specs.Of.Vec.{vec-items}
-use Rattle.store.specs.State.{opened}
-use Rattle.store.specs.View.{view}
+use Rattle.registers.specs.State.{opened}
+use Rattle.registers.specs.View.{view}
 use Rattle.sheet.specs.Lines.{lines}
 use Rattle.sheet.specs.Sheets.{register-count}
 use Rattle.sheet.specs.Runs.{row-of-result}

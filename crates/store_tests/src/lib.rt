@@ -1,0 +1,3 @@
+// The store on examples.
+#[cfg(test)]
+mod tests;
