@@ -1,5 +1,5 @@
 -- The remembered set in its rows: row i has the slot noted as the i-th, and that slot's row says i.
-use Rattle.std.proofs.Common.{◌≡◌, ℕ, ◌+◌, ◌<◌, ◌≤◌, true, false, eqb, ltb, ◌≢◌, List, [], ◌∷◌, ◌++◌, map, length, get_or, take, set, Decides, sym, refl, ap, ◌∙◌, subst, ⊎_elim, arith, length-set, Bor, below_more}
+use Rattle.std.proofs.Common.{◌≡◌, ℕ, ◌+◌, ◌<◌, ◌≤◌, true, false, eqb, ltb, ◌≢◌, List, [], ◌∷◌, ◌++◌, map, length, get_or, take, set, Decides, sym, refl, ap, ◌∙◌, subst, ⊎_elim, arith, length-set, MutBor, below_more}
 use Rattle.std.specs.List.{HoldsAt}
 use Rattle.std.proofs.lemmas.List.{get_or-map, get_or-set_same, get_or-set_other, map-set, set-get_or, take-map}
 use Rattle.std.proofs.lemmas.Bool.{cases_eq, both_ways}
@@ -126,10 +126,10 @@ noted_more n q ns room low =
     ∙ front_push f n ns (record { slot = q; index = index_in ns n }) room
 
 -- a heap with other note rows
-abbrev with_rows : {X B : Type 0} → Heap X B → Bor (List Note) → ℕ → Heap X B
+abbrev with_rows : {X B : Type 0} → Heap X B → MutBor (List Note) → ℕ → Heap X B
 with_rows h r n = record { nursery = h.nursery; slots = h.slots; registers = h.registers; forward = h.forward; notes = r; ring = h.ring; limits = h.limits; counts = h.counts; used = h.used; noted = n; copied = h.copied; status = h.status; barrier = h.barrier }
 
-pub note_carried : {X B : Type 0} (h : Heap X B) (r : Bor (List Note)) (q : ℕ) → Kept h → q < h.limits.slots → has q (noted h.noted h.notes.now) ≡ false → h.noted < h.limits.slots → r.now ≡ row_noted h.notes.now h.noted q → Carried h (with_rows h r (h.noted + 1))
+pub note_carried : {X B : Type 0} (h : Heap X B) (r : MutBor (List Note)) (q : ℕ) → Kept h → q < h.limits.slots → has q (noted h.noted h.notes.now) ≡ false → h.noted < h.limits.slots → r.now ≡ row_noted h.notes.now h.noted q → Carried h (with_rows h r (h.noted + 1))
 note_carried h r q kept within fresh room is =
     let ns = h.notes.now in
     let long : h.limits.slots ≤ length ns = kept.long.4 in
@@ -167,7 +167,7 @@ note_carried h r q kept within fresh room is =
       };
     }
 
-pub note_contents : {X B : Type 0} (g : Ghosts X) (h : Heap X B) (r : Bor (List Note)) (q : ℕ) → Kept h → q < h.limits.slots → h.noted < h.limits.slots → r.now ≡ row_noted h.notes.now h.noted q → contents g (with_rows h r (h.noted + 1)) ≡ with_notes ((contents g h).notes ++ (q ∷ [])) (contents g h)
+pub note_contents : {X B : Type 0} (g : Ghosts X) (h : Heap X B) (r : MutBor (List Note)) (q : ℕ) → Kept h → q < h.limits.slots → h.noted < h.limits.slots → r.now ≡ row_noted h.notes.now h.noted q → contents g (with_rows h r (h.noted + 1)) ≡ with_notes ((contents g h).notes ++ (q ∷ [])) (contents g h)
 note_contents g h r q kept within room is =
     let ns = h.notes.now in
     let long : h.limits.slots ≤ length ns = kept.long.4 in

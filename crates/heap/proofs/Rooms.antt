@@ -1,5 +1,5 @@
 -- Room for a record more, and the record put there.
-use Rattle.std.proofs.Common.{◌≡◌, ◌+◌, ◌-◌, ◌<◌, Bool, true, cond, ltb, List, length, Ok, Err, Result, sym, refl, ap, ◌∙◌, arith, Bor}
+use Rattle.std.proofs.Common.{◌≡◌, ◌+◌, ◌-◌, ◌<◌, Bool, true, cond, ltb, List, length, Ok, Err, Result, sym, refl, ap, ◌∙◌, arith, MutBor}
 use Rattle.std.proofs.lemmas.Bool.Decides.{nat_tests}
 use Rattle.ring.specs.View.{slots_of}
 use Rattle.kinds.specs.declared.kind.Kind.{Ghosts}
@@ -40,10 +40,10 @@ module _ {X B : Type 0} (g : Ghosts X) (h : Heap X B) (s : Sound h) where
       omega arith
 
 -- a heap with one record more in its nursery
-abbrev pub with_record : {X B : Type 0} → Heap X B → Bor (List X) → Counts → Heap X B
+abbrev pub with_record : {X B : Type 0} → Heap X B → MutBor (List X) → Counts → Heap X B
 with_record h n c = record { nursery = n; slots = h.slots; registers = h.registers; forward = h.forward; notes = h.notes; ring = h.ring; limits = h.limits; counts = c; used = h.used + 1; noted = h.noted; copied = h.copied; status = h.status; barrier = h.barrier }
 
-module _ {X B : Type 0} (h : Heap X B) (n : Bor (List X)) (c : Counts) (rest : Rest h.limits.places h.nursery.now n.now) where
+module _ {X B : Type 0} (h : Heap X B) (n : MutBor (List X)) (c : Counts) (rest : Rest h.limits.places h.nursery.now n.now) where
   pub sound_record : Sound h → h.used < h.limits.places → (c.slots ≡ h.counts.slots) × (c.occupied ≡ h.counts.occupied) × (c.white ≡ h.counts.white) × (c.nursery ≡ h.counts.nursery + 1) → Sound (with_record h n c)
   sound_record s low e = record {
     kept = record {

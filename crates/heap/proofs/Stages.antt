@@ -1,5 +1,5 @@
 -- The emptying of the nursery: a heap of which some tables were written, part after part.
-use Rattle.std.proofs.Common.{◌≡◌, ℕ, ◌+◌, ◌<◌, ◌≤◌, Bool, true, List, [], ◌∷◌, ◌++◌, length, get_or, set, replicate, Some, None, Option, sym, refl, ap, ◌∙◌, subst, arith, Bor}
+use Rattle.std.proofs.Common.{◌≡◌, ℕ, ◌+◌, ◌<◌, ◌≤◌, Bool, true, List, [], ◌∷◌, ◌++◌, length, get_or, set, replicate, Some, None, Option, sym, refl, ap, ◌∙◌, subst, arith, MutBor}
 use Rattle.kinds.specs.declared.kind.Kind.{Ghosts}
 use Rattle.ring.specs.Arcs.{Arcs, has, ring_of, take_slot}
 use Rattle.ring.specs.Calls.{taken_slot, taken_arcs}
@@ -19,15 +19,15 @@ use Rattle.heap.proofs.Evacuations.{unmoved_less, unmoved_all, below_set, below_
 use Rattle.heap.proofs.Slots.{linked_below}
 
 -- a lent table that now holds something else
-abbrev pub holding : {Y : Type 0} → Bor Y → Y → Bor Y
-holding t y = record { ref_ptr = t.ptr; ghost_name = t.name; now = y }
+abbrev pub holding : {Y : Type 0} → MutBor Y → Y → MutBor Y
+holding t y = record { ref_ptr = t.ref_ptr; ghost_name = t.ghost_name; now = y }
 
 -- a heap with other registers, slots, forwarding rows, ring and counts, and n records copied
-abbrev pub written : {X B : Type 0} → Heap X B → Bor (List ℕ) → Bor (List X) → Bor (List Forward) → Ring → Counts → ℕ → Heap X B
+abbrev pub written : {X B : Type 0} → Heap X B → MutBor (List ℕ) → MutBor (List X) → MutBor (List Forward) → Ring → Counts → ℕ → Heap X B
 written h w s f r c n = record { nursery = h.nursery; slots = s; registers = w; forward = f; notes = h.notes; ring = r; limits = h.limits; counts = c; used = h.used; noted = h.noted; copied = n; status = h.status; barrier = h.barrier }
 
 -- the tables keep what stands beyond the sizes, and the counts are those of the ring
-pub record Within {X B : Type 0} (h : Heap X B) (w : Bor (List ℕ)) (s : Bor (List X)) (f : Bor (List Forward)) (r : Ring) (c : Counts) : Type 0 where
+pub record Within {X B : Type 0} (h : Heap X B) (w : MutBor (List ℕ)) (s : MutBor (List X)) (f : MutBor (List Forward)) (r : Ring) (c : Counts) : Type 0 where
   pub registers_rest : Rest h.limits.registers h.registers.now w.now
   pub slots_rest : Rest h.limits.slots h.slots.now s.now
   pub forward_rest : Rest h.limits.places h.forward.now f.now
@@ -36,7 +36,7 @@ pub record Within {X B : Type 0} (h : Heap X B) (w : Bor (List ℕ)) (s : Bor (L
   pub ring_rest : Beyond h.ring r
   pub counted : Counted (written h w s f r c 0)
 
-pub kept_within : {X B : Type 0} (h : Heap X B) (w : Bor (List ℕ)) (s : Bor (List X)) (f : Bor (List Forward)) (r : Ring) (c : Counts) (n : ℕ) → Kept h → Within h w s f r c → Kept (written h w s f r c n)
+pub kept_within : {X B : Type 0} (h : Heap X B) (w : MutBor (List ℕ)) (s : MutBor (List X)) (f : MutBor (List Forward)) (r : Ring) (c : Counts) (n : ℕ) → Kept h → Within h w s f r c → Kept (written h w s f r c n)
 kept_within h w s f r c n k i = record {
   long = (omega (arith, k.long, i.registers_rest.size), omega (arith, k.long), omega (arith, k.long, i.slots_rest.size), omega (arith, k.long, i.forward_rest.size), omega (arith, k.long));
   fine = i.fine;
@@ -49,7 +49,7 @@ kept_within h w s f r c n k i = record {
   few_places = k.few_places;
 }
 
-pub frame_within : {X B : Type 0} (h : Heap X B) (w : Bor (List ℕ)) (s : Bor (List X)) (f : Bor (List Forward)) (r : Ring) (c : Counts) (n : ℕ) → Within h w s f r c → Frame h (written h w s f r c n)
+pub frame_within : {X B : Type 0} (h : Heap X B) (w : MutBor (List ℕ)) (s : MutBor (List X)) (f : MutBor (List Forward)) (r : Ring) (c : Counts) (n : ℕ) → Within h w s f r c → Frame h (written h w s f r c n)
 frame_within h w s f r c n i = record {
   same_limits = refl {a = h.limits};
   same_status = refl {a = h.status};
@@ -64,7 +64,7 @@ frame_within h w s f r c n i = record {
 }
 
 -- what a part leaves, from what it wrote
-pub stage_within : {X B : Type 0} (h : Heap X B) (w : Bor (List ℕ)) (s : Bor (List X)) (f : Bor (List Forward)) (r : Ring) (c : Counts) (n : ℕ) → Kept h → Within h w s f r c
+pub stage_within : {X B : Type 0} (h : Heap X B) (w : MutBor (List ℕ)) (s : MutBor (List X)) (f : MutBor (List Forward)) (r : Ring) (c : Counts) (n : ℕ) → Kept h → Within h w s f r c
     → c.nursery ≡ unmoved (front (λ x. x.target) h.used f.now)
     → n + c.nursery ≡ h.used
     → ((p : ℕ) → p < h.used → BelowIf h.limits.slots (get_or f.now p no_forward).target)
@@ -88,7 +88,7 @@ stage_trans a b c s t = record {
 }
 
 -- the emptying begins: no row leads to a slot
-pub begun_stage : {X B : Type 0} (h : Heap X B) (f : Bor (List Forward)) → Sound h → front (λ x. x.target) h.used f.now ≡ replicate h.used None → ((m : ℕ) → h.used ≤ m → Rest m h.forward.now f.now) → Stage h (written h h.registers h.slots f h.ring h.counts 0)
+pub begun_stage : {X B : Type 0} (h : Heap X B) (f : MutBor (List Forward)) → Sound h → front (λ x. x.target) h.used f.now ≡ replicate h.used None → ((m : ℕ) → h.used ≤ m → Rest m h.forward.now f.now) → Stage h (written h h.registers h.slots f h.ring h.counts 0)
 begun_stage h f s none rest =
     let k = s.kept in
     let fresh = rest h.limits.places k.used_low in
@@ -100,7 +100,7 @@ begun_stage h f s none rest =
     (λ p low. subst (BelowIf h.limits.slots) (ap (λ fs. get_or fs p None) (sym none) ∙ row_target h.used p f.now low long) (below_none h.limits.slots h.used p))
     (λ i low. absurd (omega arith))
 
-pub begun_state : {X B : Type 0} (g : Ghosts X) (h : Heap X B) (f : Bor (List Forward)) → Sound h → front (λ x. x.target) h.used f.now ≡ replicate h.used None → evacuation g (written h h.registers h.slots f h.ring h.counts 0) ≡ begin_evacuation (contents g h)
+pub begun_state : {X B : Type 0} (g : Ghosts X) (h : Heap X B) (f : MutBor (List Forward)) → Sound h → front (λ x. x.target) h.used f.now ≡ replicate h.used None → evacuation g (written h h.registers h.slots f h.ring h.counts 0) ≡ begin_evacuation (contents g h)
 begun_state g h f s none =
     ap (λ fs. record { store = contents g h; forward = fs; copied = [] })
     (none ∙ ap (λ n. replicate n None) (sym (length_front (meaning_of g) h.used h.nursery.now (omega (arith, s.kept.used_low, s.kept.long)))))
@@ -128,7 +128,7 @@ taken_low h r o q k left e =
     omega (arith, linked_below _ _ (slots_of r) q (ring_of (arcs_of r)) left.linked stands, left.slots_kept, k.ring_size)
 
 -- what copying the record of place p to slot q did
-pub record Copying {X B : Type 0} (h : Heap X B) (s : Bor (List X)) (f : Bor (List Forward)) (r : Ring) (c : Counts) (x : X) (p q : ℕ) : Type 0 where
+pub record Copying {X B : Type 0} (h : Heap X B) (s : MutBor (List X)) (f : MutBor (List Forward)) (r : Ring) (c : Counts) (x : X) (p q : ℕ) : Type 0 where
   pub in_use : p < h.used
   pub unforwarded : (get_or h.forward.now p no_forward).target ≡ None
   pub answer : Some q ≡ taken_slot (arcs_of h.ring)
@@ -140,7 +140,7 @@ pub record Copying {X B : Type 0} (h : Heap X B) (s : Bor (List X)) (f : Bor (Li
   pub beyond : (m : ℕ) → p < m → h.copied < m → Rest m h.forward.now f.now
   pub counts_are : (c.slots ≡ h.counts.slots) × (c.occupied ≡ h.counts.occupied + 1) × (c.white ≡ h.counts.white) × (c.nursery + 1 ≡ h.counts.nursery)
 
-copied_within : {X B : Type 0} (h : Heap X B) (s : Bor (List X)) (f : Bor (List Forward)) (r : Ring) (c : Counts) (x : X) (p q : ℕ) → Evacuating h → Copying h s f r c x p q → Within h h.registers s f r c
+copied_within : {X B : Type 0} (h : Heap X B) (s : MutBor (List X)) (f : MutBor (List Forward)) (r : Ring) (c : Counts) (x : X) (p q : ℕ) → Evacuating h → Copying h s f r c x p q → Within h h.registers s f r c
 copied_within h s f r c x p q e y =
     let t = taken (arcs_of h.ring) q y.answer in
     let k = e.kept in
@@ -157,7 +157,7 @@ copied_within h s f r c x p q e y =
       counted = (omega (arith, y.counts_are, k.counted), omega (arith, y.counts_are, k.counted, free_is), omega (arith, y.counts_are, k.counted, white_is));
     }
 
-pub copied_stage : {X B : Type 0} (h : Heap X B) (s : Bor (List X)) (f : Bor (List Forward)) (r : Ring) (c : Counts) (x : X) (p q : ℕ) → Evacuating h → Copying h s f r c x p q → Stage h (written h h.registers s f r c (h.copied + 1))
+pub copied_stage : {X B : Type 0} (h : Heap X B) (s : MutBor (List X)) (f : MutBor (List Forward)) (r : Ring) (c : Counts) (x : X) (p q : ℕ) → Evacuating h → Copying h s f r c x p q → Stage h (written h h.registers s f r c (h.copied + 1))
 copied_stage h s f r c x p q e y =
     let k = e.kept in
     let was = h.forward.now in
@@ -179,7 +179,7 @@ copied_stage h s f r c x p q e y =
     (λ a b. subst (λ v. v < h.limits.slots) (sym (row_copied h.copied a was (omega (arith, b, queue_length)) (omega (arith, room, old_long)))) (e.queued a (omega (arith, b, queue_length))))
     (omega (arith, low, queue_length))))
 
-pub copied_state : {X B : Type 0} (g : Ghosts X) (h : Heap X B) (s : Bor (List X)) (f : Bor (List Forward)) (r : Ring) (c : Counts) (x : X) (p q : ℕ) → Evacuating h → Copying h s f r c x p q
+pub copied_state : {X B : Type 0} (g : Ghosts X) (h : Heap X B) (s : MutBor (List X)) (f : MutBor (List Forward)) (r : Ring) (c : Counts) (x : X) (p q : ℕ) → Evacuating h → Copying h s f r c x p q
     → evacuation g (written h h.registers s f r c (h.copied + 1)) ≡ (evacuate_into p (take_slot (arcs_of h.ring)) (evacuation g h)).1
 copied_state g h s f r c x p q e y =
     same_parts _ _ _ _ _ _ _ _ _ _ _ _ _ _ _ _ refl refl

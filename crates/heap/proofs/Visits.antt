@@ -1,5 +1,5 @@
 -- Visits: a word is read, evacuated and put back; the loops over registers, links, notes and copied records; the whole emptying.
-use Rattle.std.proofs.Common.{◌≡◌, ℕ, zero, suc, ◌+◌, ◌-◌, ◌<◌, ◌≤◌, Bool, false, cond, List, map, length, get_or, take, drop, set, sym, refl, ap, ◌∙◌, subst, add-one, arith, Bor}
+use Rattle.std.proofs.Common.{◌≡◌, ℕ, zero, suc, ◌+◌, ◌-◌, ◌<◌, ◌≤◌, Bool, false, cond, List, map, length, get_or, take, drop, set, sym, refl, ap, ◌∙◌, subst, add-one, arith, MutBor}
 use Rattle.std.proofs.lemmas.List.{get_or-take, take-map, drop_all, drop_more}
 use Rattle.std.proofs.lemmas.Bool.{lt-ltb, le-ltb}
 use Rattle.kinds.specs.declared.kind.Kind.{Ghosts}
@@ -19,7 +19,7 @@ use Rattle.heap.proofs.Evacuations.{row_copied}
 use Rattle.heap.proofs.Stages.{written, stage_within, stage_trans, stage_refl}
 
 -- a part that writes only registers and slots
-pub tables_stage : {X B : Type 0} (h : Heap X B) (w : Bor (List ℕ)) (s : Bor (List X)) → Evacuating h → Rest h.limits.registers h.registers.now w.now → Rest h.limits.slots h.slots.now s.now → Stage h (written h w s h.forward h.ring h.counts h.copied)
+pub tables_stage : {X B : Type 0} (h : Heap X B) (w : MutBor (List ℕ)) (s : MutBor (List X)) → Evacuating h → Rest h.limits.registers h.registers.now w.now → Rest h.limits.slots h.slots.now s.now → Stage h (written h w s h.forward h.ring h.counts h.copied)
 tables_stage h w s e registers slots =
     stage_within h w s h.forward h.ring h.counts h.copied e.kept
     (record { registers_rest = registers; slots_rest = slots; forward_rest = rest_refl _ _; fine = e.kept.fine; same_slots = refl; ring_rest = beyond_refl _; counted = e.kept.counted })
@@ -56,12 +56,12 @@ front_set_link g n q k v xs ys low e =
     ∙ ap (λ r. set (front (meaning_of g) n xs) q (with_link r k v)) (front_record g n q xs low)
 
 -- the state after such a write
-pub register_written : {X B : Type 0} (g : Ghosts X) (h : Heap X B) (w : Bor (List ℕ)) (i v : ℕ) → w.now ≡ set h.registers.now i v → evacuation g (written h w h.slots h.forward h.ring h.counts h.copied) ≡ with_register i v (evacuation g h)
+pub register_written : {X B : Type 0} (g : Ghosts X) (h : Heap X B) (w : MutBor (List ℕ)) (i v : ℕ) → w.now ≡ set h.registers.now i v → evacuation g (written h w h.slots h.forward h.ring h.counts h.copied) ≡ with_register i v (evacuation g h)
 register_written g h w i v e =
     ap (λ rs. record { store = with_registers rs (contents g h); forward = (evacuation g h).forward; copied = (evacuation g h).copied })
     (ap (take h.limits.registers) e ∙ take_set_any h.limits.registers h.registers.now i v)
 
-pub slot_written : {X B : Type 0} (g : Ghosts X) (h : Heap X B) (s : Bor (List X)) (q k v : ℕ) → q < h.limits.slots → map (meaning_of g) s.now ≡ set_link (map (meaning_of g) h.slots.now) q k v → evacuation g (written h h.registers s h.forward h.ring h.counts h.copied) ≡ with_slot_link q k v (evacuation g h)
+pub slot_written : {X B : Type 0} (g : Ghosts X) (h : Heap X B) (s : MutBor (List X)) (q k v : ℕ) → q < h.limits.slots → map (meaning_of g) s.now ≡ set_link (map (meaning_of g) h.slots.now) q k v → evacuation g (written h h.registers s h.forward h.ring h.counts h.copied) ≡ with_slot_link q k v (evacuation g h)
 slot_written g h s q k v low e =
     ap (λ rs. record { store = with_slots rs (contents g h); forward = (evacuation g h).forward; copied = (evacuation g h).copied })
     (front_set_link g h.limits.slots q k v h.slots.now s.now low e)

@@ -1,5 +1,5 @@
 -- A link written into a table of records, and what a write leaves.
-use Rattle.std.proofs.Common.{◌≡◌, ℕ, ◌<◌, Bool, true, false, not, ◌&&◌, leb, List, map, length, get_or, take, set, sym, refl, ap, ◌∙◌, arith, Bor}
+use Rattle.std.proofs.Common.{◌≡◌, ℕ, ◌<◌, Bool, true, false, not, ◌&&◌, leb, List, map, length, get_or, take, set, sym, refl, ap, ◌∙◌, arith, MutBor}
 use Rattle.std.proofs.lemmas.List.{take-map}
 use Rattle.std.proofs.lemmas.Bool.{not-true, and_parts, leb-false}
 use Rattle.ring.specs.Arcs.{has}
@@ -30,10 +30,10 @@ front_set_link g xs ys n q k w low is =
     ∙ ap (λ ts. set ts q (with_link (get_or (front (meaning_of g) n xs) q no_record) k w)) (take-map (meaning_of g) n xs)
 
 -- a heap with other records
-abbrev with_records : {X B : Type 0} → Heap X B → Bor (List X) → Bor (List X) → Heap X B
+abbrev with_records : {X B : Type 0} → Heap X B → MutBor (List X) → MutBor (List X) → Heap X B
 with_records h young aged = record { nursery = young; slots = aged; registers = h.registers; forward = h.forward; notes = h.notes; ring = h.ring; limits = h.limits; counts = h.counts; used = h.used; noted = h.noted; copied = h.copied; status = h.status; barrier = h.barrier }
 
-pub records_carried : {X B : Type 0} (h : Heap X B) (young aged : Bor (List X)) → Kept h → Rest h.limits.places h.nursery.now young.now → Rest h.limits.slots h.slots.now aged.now → Carried h (with_records h young aged)
+pub records_carried : {X B : Type 0} (h : Heap X B) (young aged : MutBor (List X)) → Kept h → Rest h.limits.places h.nursery.now young.now → Rest h.limits.slots h.slots.now aged.now → Carried h (with_records h young aged)
 records_carried h young aged kept in-nursery in_slots =
     let still : Kept (with_records h young aged) = record {
       long = (kept.long.0, omega (arith, in-nursery.size, kept.long.1), omega (arith, in_slots.size, kept.long.2), kept.long.3, kept.long.4);

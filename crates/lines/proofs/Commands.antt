@@ -1,6 +1,6 @@
 -- The rows of a command table, one by one.
-use Rattle.std.proofs.Common.{◌≡◌, ℕ, ◌+◌, ◌<◌, Bool, true, false, List, length, get_or, drop, Some, Decides, sym, refl, ◌∙◌}
-use Rattle.std.specs.Cmp.Lexicographic.{Matches}
+use Rattle.std.proofs.Common.{◌≡◌, ℕ, ◌+◌, ◌<◌, Bool, true, false, List, length, get_or, drop, Some, eqb, ap, sym, refl, ◌∙◌}
+use Rattle.std.specs.Cmp.Lexicographic.{pointwise}
 use Rattle.std.specs.Str.{bytes_eq}
 use Rattle.std.proofs.lemmas.Slice.Eq.{slice_eq-Decides, bytes_eq-Decides}
 use Rattle.std.proofs.lemmas.List.{at_drop_more}
@@ -9,9 +9,9 @@ use Rattle.std.proofs.lemmas.Bool.Decides.{same_from_decides, Decides-eqb}
 use Rattle.lines.specs.declared.command.Command.{Command}
 use Rattle.lines.specs.Commands.{command_table, command_in, command_named}
 
-module _ (rows : List (List ℕ × Command)) (name : List ℕ) (i : ℕ) (d : List ℕ × Command) (r : Bool) (within : i < length rows) (said : Matches (λ (a b : ℕ) (t : Bool). Decides t (a ≡ b)) name (get_or rows i d).0 r) where
+module _ (rows : List (List ℕ × Command)) (name : List ℕ) (i : ℕ) (d : List ℕ × Command) (r : Bool) (within : i < length rows) (text : List ℕ) (is : text ≡ (get_or rows i d).0) (said : r ≡ pointwise eqb name text) where
   answer : bytes_eq name (get_or rows i d).0 ≡ r
-  answer = sym (same_from_decides r (bytes_eq name (get_or rows i d).0) (slice_eq-Decides Decides-eqb name (get_or rows i d).0 r said) (bytes_eq-Decides name (get_or rows i d).0))
+  answer = sym (same_from_decides r (bytes_eq name (get_or rows i d).0) (slice_eq-Decides Decides-eqb name (get_or rows i d).0 r (said ∙ ap (pointwise eqb name) is)) (bytes_eq-Decides name (get_or rows i d).0))
 
   pub command_found : r ≡ true → command_in (drop i rows) name ≡ Some (get_or rows i d).1
   command_found yes' = at_drop_more (λ l. command_in l name) rows i d within ∙ cond-true _ _ _ (answer ∙ yes')

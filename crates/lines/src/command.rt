@@ -41,7 +41,7 @@ fn command_in(rows: &[([u8; 6], Command)], name: &[u8]) -> Option<Command>
     ensures { result ≡ command_in rows.now name.now }
 {
     for (text, command) in rows {
-        if name == text {
+        if name == text.as_slice() {
             return Some(*command);
         }
     }

@@ -69,7 +69,7 @@ impl<T: Kind, B: Barrier> Heap<'_, T, B> {
     fn links_of(&self, q: u32) -> [u32; 8]
         requires kept { Kept self.now }
         requires within { q < self.now.limits.slots }
-        ensures { take T-as-Kind.count result ≡ (slice_index_or (contents T-as-Kind self.now).slots q no_record).links }
+        ensures { take T.Kind.count result ≡ (slice_index_or (contents T.Kind self.now).slots q no_record).links }
     {
         links_in(self.slots, q as usize)
     }
@@ -78,8 +78,8 @@ impl<T: Kind, B: Barrier> Heap<'_, T, B> {
     fn scan_one(&mut self) -> bool
         requires { Kept self.old }
         ensures carried { Carried self.old self.new }
-        ensures answer { result ≡ scans_one (contents T-as-Kind self.old) }
-        ensures left { contents T-as-Kind self.new ≡ scanned_one (contents T-as-Kind self.old) }
+        ensures answer { result ≡ scans_one (contents T.Kind self.old) }
+        ensures left { contents T.Kind self.new ≡ scanned_one (contents T.Kind self.old) }
     {
         let Some(q) = self.ring.scan() else {
             return false;
@@ -93,9 +93,9 @@ impl<T: Kind, B: Barrier> Heap<'_, T, B> {
     fn scan_upto(&mut self, most: u32) -> u32
         requires { Kept self.old }
         ensures carried { Carried self.old self.new }
-        ensures answer { result ≡ scans_made most (contents T-as-Kind self.old) }
+        ensures answer { result ≡ scans_made most (contents T.Kind self.old) }
         ensures few { result ≤ most }
-        ensures left { contents T-as-Kind self.new ≡ scanned_upto most (contents T-as-Kind self.old) }
+        ensures left { contents T.Kind self.new ≡ scanned_upto most (contents T.Kind self.old) }
     {
         for scanned in 0..most {
             if !self.scan_one() {
@@ -110,8 +110,8 @@ impl<T: Kind, B: Barrier> Heap<'_, T, B> {
         requires kept { Kept self.old }
         requires opened { is_open_of self.old.ring ≡ true }
         ensures carried { Carried self.old self.new }
-        ensures answer { result ≡ freed_by_close (contents T-as-Kind self.old).arcs }
-        ensures left { contents T-as-Kind self.new ≡ close_if_done (contents T-as-Kind self.old) }
+        ensures answer { result ≡ freed_by_close (contents T.Kind self.old).arcs }
+        ensures left { contents T.Kind self.new ≡ close_if_done (contents T.Kind self.old) }
     {
         if !self.ring.close_cycle() {
             return 0;
@@ -126,10 +126,10 @@ impl<T: Kind, B: Barrier> Heap<'_, T, B> {
         requires kept { Kept self.old }
         requires opened { is_open_of self.old.ring ≡ true }
         ensures carried { Carried self.old self.new }
-        ensures scanned { result.scanned ≡ scans_made most (contents T-as-Kind self.old) }
+        ensures scanned { result.scanned ≡ scans_made most (contents T.Kind self.old) }
         ensures few { result.scanned ≤ most }
-        ensures freed { result.freed ≡ freed_after most (contents T-as-Kind self.old) }
-        ensures left { contents T-as-Kind self.new ≡ scan_and_close most (contents T-as-Kind self.old) }
+        ensures freed { result.freed ≡ freed_after most (contents T.Kind self.old) }
+        ensures left { contents T.Kind self.new ≡ scan_and_close most (contents T.Kind self.old) }
     {
         let scanned = self.scan_upto(most);
         let freed = self.close_if_done();

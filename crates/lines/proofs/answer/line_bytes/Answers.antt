@@ -14,8 +14,8 @@ returns-in_err-column c =
     let none : written v ≡ None = ap written (sym (to_z-of_z w64 v fits)) ∙ sym c.write_column.ensures ∙ c.in_err-column.was in
     c.from_residual.ensures ∙ partial_stop values c.loop-i.line c.loop-i.i (pos 0) (omega arith) c.told-values c.loop-i.invariant.1 none
 
-pub slice_bounds-line_end : goal.slice_bounds-line_end
-slice_bounds-line_end c = search rules
+pub slice_bounds-line-end : goal.slice_bounds-line-end
+slice_bounds-line-end c = search rules
 
 pub loop-i-preserved : goal.loop-i-preserved
 loop-i-preserved c =

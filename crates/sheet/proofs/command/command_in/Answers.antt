@@ -6,11 +6,11 @@ use Rattle.sheet.proofs.command.command_in.Goals as goal
 
 pub returns-then-eq : goal.returns-then-eq
 returns-then-eq c =
-    sym (command_found c.args.rows.now c.args.name.now c.loop-text.text-index _ c.eq.result c.loop-text-test.true c.eq.ensures c.if-eq.true) ∙ c.loop-text.invariant
+    sym (command_found c.args.rows.now c.args.name.now c.loop-text.text-index _ c.eq.result c.loop-text-test.true _ c.as_slice.ensures c.eq.ensures c.if-eq.true) ∙ c.loop-text.invariant
 
 pub loop-text-preserved : goal.loop-text-preserved
 loop-text-preserved c =
-    sym (command_passed c.args.rows.now c.args.name.now c.loop-text.text-index _ c.eq.result c.loop-text-test.true c.eq.ensures c.if-eq.false) ∙ c.loop-text.invariant
+    sym (command_passed c.args.rows.now c.args.name.now c.loop-text.text-index _ c.eq.result c.loop-text-test.true _ c.as_slice.ensures c.eq.ensures c.if-eq.false) ∙ c.loop-text.invariant
 
 pub returns : goal.returns
 returns c = sym (at_drop_all (λ l. command_in l c.args.name.now) c.args.rows.now c.loop-text.text-index c.loop-text-test.false) ∙ c.loop-text.invariant

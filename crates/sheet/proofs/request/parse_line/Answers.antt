@@ -14,30 +14,30 @@ returns-then-not-is_good_line c = record { value = sym (parsed_bad c.args.line.n
 pub returns-in_err-command : goal.returns-in_err-command
 returns-in_err-command c =
     let p = err_from_is_err_and c.from_residual.result c.from_residual.ensures.1 in
-    let u = unknown c.parse.result c.ok_or.result c.in_err-command.field-0.0 c.ok_or.ensures.ok-part c.ok_or.ensures.value c.in_err-command.was in
+    let u = unknown c.parse.result c.ok_or.result c.in_err-command.field-0.0 c.ok_or.ensures.ok_part c.ok_or.ensures.value c.in_err-command.was in
     record { value = p.1 ∙ ap Err (p.2 ∙ u.1) ∙ sym (parsed_good c.args.line.now None (sym c.if-not-is_good_line.ensures) (sym (c.parse.ensures ∙ named_in_table (take 6 c.args.line.now)) ∙ u.0)); spelled = taken_as_spelled }
 
 pub returns-in_err-a : goal.returns-in_err-a
 returns-in_err-a c =
     let p = err_from_is_err_and c.from_residual-in_err-a.result c.from_residual-in_err-a.ensures.1 in
-    let named : command_named (take 6 c.args.line.now) ≡ Some c.in_ok-command.command = sym (c.parse.ensures ∙ named_in_table (take 6 c.args.line.now)) ∙ c.ok_or.ensures.ok-part ∙ ap result_ok c.in_ok-command.was in
+    let named : command_named (take 6 c.args.line.now) ≡ Some c.in_ok-command.command = sym (c.parse.ensures ∙ named_in_table (take 6 c.args.line.now)) ∙ c.ok_or.ensures.ok_part ∙ ap result_ok c.in_ok-command.was in
     record { value = p.1 ∙ ap Err p.2 ∙ sym (first_bad c.args.line.now c.in_ok-command.command c.field_count-used.result (sym c.if-not-is_good_line.ensures) named c.field_count-used.ensures _ (sym c.read_field.ensures ∙ c.in_err-a.was)); spelled = taken_as_spelled }
 
 pub returns-in_err-b : goal.returns-in_err-b
 returns-in_err-b c =
     let p = err_from_is_err_and c.from_residual-in_err-b.result c.from_residual-in_err-b.ensures.1 in
-    let named : command_named (take 6 c.args.line.now) ≡ Some c.in_ok-command.command = sym (c.parse.ensures ∙ named_in_table (take 6 c.args.line.now)) ∙ c.ok_or.ensures.ok-part ∙ ap result_ok c.in_ok-command.was in
+    let named : command_named (take 6 c.args.line.now) ≡ Some c.in_ok-command.command = sym (c.parse.ensures ∙ named_in_table (take 6 c.args.line.now)) ∙ c.ok_or.ensures.ok_part ∙ ap result_ok c.in_ok-command.was in
     record { value = p.1 ∙ ap Err p.2 ∙ sym (second_bad c.args.line.now c.in_ok-command.command c.field_count-used.result (sym c.if-not-is_good_line.ensures) named c.field_count-used.ensures c.in_ok-a.a _ (sym c.read_field.ensures ∙ c.in_ok-a.was) (sym c.read_field-2.ensures ∙ c.in_err-b.was)); spelled = taken_as_spelled }
 
 pub returns-in_err-c : goal.returns-in_err-c
 returns-in_err-c c =
     let p = err_from_is_err_and c.from_residual-in_err-c.result c.from_residual-in_err-c.ensures.1 in
-    let named : command_named (take 6 c.args.line.now) ≡ Some c.in_ok-command.command = sym (c.parse.ensures ∙ named_in_table (take 6 c.args.line.now)) ∙ c.ok_or.ensures.ok-part ∙ ap result_ok c.in_ok-command.was in
+    let named : command_named (take 6 c.args.line.now) ≡ Some c.in_ok-command.command = sym (c.parse.ensures ∙ named_in_table (take 6 c.args.line.now)) ∙ c.ok_or.ensures.ok_part ∙ ap result_ok c.in_ok-command.was in
     record { value = p.1 ∙ ap Err p.2 ∙ sym (two_good c.args.line.now c.in_ok-command.command c.field_count-used.result (sym c.if-not-is_good_line.ensures) named c.field_count-used.ensures c.in_ok-a.a c.in_ok-b.b (sym c.read_field.ensures ∙ c.in_ok-a.was) (sym c.read_field-2.ensures ∙ c.in_ok-b.was) (Err c.in_err-c.field-0.0) (sym c.read_field-3.ensures ∙ c.in_err-c.was)); spelled = taken_as_spelled }
 
 pub returns : goal.returns
 returns c =
-    let named : command_named (take 6 c.args.line.now) ≡ Some c.in_ok-command.command = sym (c.parse.ensures ∙ named_in_table (take 6 c.args.line.now)) ∙ c.ok_or.ensures.ok-part ∙ ap result_ok c.in_ok-command.was in
+    let named : command_named (take 6 c.args.line.now) ≡ Some c.in_ok-command.command = sym (c.parse.ensures ∙ named_in_table (take 6 c.args.line.now)) ∙ c.ok_or.ensures.ok_part ∙ ap result_ok c.in_ok-command.was in
     let fa : SFits w64 c.in_ok-a.a = search rules in
     let fb : SFits w64 c.in_ok-b.b = search rules in
     let fc : SFits w64 c.in_ok-c.c = search rules in

@@ -43,5 +43,5 @@ returns g c =
     let (d_in, (d_is, d_low)) = index_tells NoSuchRegister h.limits.registers c.args.d c.in_ok-i.i c.ranges.d is in
     let l = link_taken s.sizes s.store c.args.s c.args.k at c.in_ok-at.n c.ranges.s c.ranges.k c.in_ok-at.ensures.place in
     let run = read_run s.sizes g.B.Barrier.answers s.store c.args.d c.args.s c.args.k (index c.args.s) _ d_in l.register_in l.link_in refl l.found in
-    let done = puts g.B.Barrier.answers s _ (read c.args.d c.args.s c.args.k) c.args.d c.in_ok-i.i c.link_at-w.result (get_or (record_at s.store at).links (index c.args.k) 0) now_open c.put_word.ensures.state d_is (c.link_at-w.ensures ∙ ap (λ n. get_or (record_at s.store at).links n 0) l.index-is) run in
+    let done = puts g.B.Barrier.answers s _ (read c.args.d c.args.s c.args.k) c.args.d c.in_ok-i.i c.link_at-w.result (get_or (record_at s.store at).links (index c.args.k) 0) now_open c.put_word.ensures.state d_is (c.link_at-w.ensures ∙ ap (λ n. get_or (record_at s.store at).links n 0) l.index_is) run in
     record { sound = c.put_word.ensures.sound; state = done.state; told = done.told; frame = c.put_word.ensures.frame }

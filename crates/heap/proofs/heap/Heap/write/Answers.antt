@@ -48,7 +48,7 @@ returns g c =
     let (now_open, is) = register_taken h.status h.limits.registers c.args.t c.in_ok-i.i c.ranges.t c.in_ok-i.ensures in
     let (t_in, (t_is, t_low)) = index_tells NoSuchRegister h.limits.registers c.args.t c.in_ok-i.i c.ranges.t is in
     let l = link_taken s.sizes s.store c.args.s c.args.k at n c.ranges.s c.ranges.k c.in_ok-at.ensures.place in
-    let run = write_run s.sizes b s.store c.args.s c.args.k c.args.t (index c.args.s) _ l.register_in t_in l.link_in refl l.found ∙ written_is s.sizes b s.store c.args.k c.args.t n c.in_ok-i.i w at l.index-is t_is c.word_in-w.ensures in
+    let run = write_run s.sizes b s.store c.args.s c.args.k c.args.t (index c.args.s) _ l.register_in t_in l.link_in refl l.found ∙ written_is s.sizes b s.store c.args.k c.args.t n c.in_ok-i.i w at l.index_is t_is c.word_in-w.ensures in
     let x = (do_write s.sizes b s.store n w at).0 in
     let a = (do_write s.sizes b s.store n w at).1 in
     record {
