@@ -1,5 +1,7 @@
 // A dosing day in the ink kitchen: batches of doses and flushes are kept as chains in a store, the day's calls are made by one
 // run, and at the end the flushes of each valve are tallied.
+#![tactic(auto)]
+
 mod fault;
 mod plan;
 mod report;

@@ -1,5 +1,5 @@
 -- Shading, opening, scanning and closing, over models and heaps.
-use Rattle.std.proofs.Common.{◌≡◌, ℕ, zero, suc, ◌+◌, ◌-◌, ◌<◌, ◌≤◌, Bool, true, false, cond, not, ◌&&◌, eqb, List, [], ◌∷◌, ◌++◌, map, length, get_or, take, is_some, Some, None, Option, unwrap_or, sym, refl, ap, ◌∙◌, arith}
+use Rattle.std.proofs.Common.{◌≡◌, ℕ, zero, suc, ◌+◌, ◌<◌, ◌≤◌, Bool, true, false, cond, not, ◌&&◌, eqb, List, [], ◌∷◌, ◌++◌, map, length, get_or, take, is_some, Some, None, Option, unwrap_or, sym, refl, ap, ◌∙◌, arith}
 use Rattle.std.proofs.lemmas.List.{get_or-take, take_more, take_all, length-append, length-take-le, ext_get_or, take-map}
 use Rattle.std.proofs.lemmas.Bool.{eq-eqb, or_left, or_right, false≢true, true≢false}
 use Rattle.ring.specs.Arcs.{Arcs, has, ring_of, scan_slot, scan_from, split_last, open_arcs, close_arcs}

@@ -1,5 +1,5 @@
 -- What no call alters, step by step.
-use Rattle.std.proofs.Common.{◌≡◌, ℕ, ◌<◌, List, length, drop, set, sym, refl, ap, ◌∙◌, subst, length-set}
+use Rattle.std.proofs.Common.{◌≡◌, ℕ, ◌<◌, List, length, drop, set, sym, refl, ap, ◌∙◌, length-set}
 use Rattle.std.proofs.lemmas.List.{drop-set-lt}
 use Rattle.ring.specs.declared.ring.Ring.{Ring}
 use Rattle.ring.specs.View.{slots_of, Kept as Left, Beyond}

@@ -1,5 +1,5 @@
 -- What always holds of a heap, carried over changes of its parts.
-use Rattle.std.proofs.Common.{◌≡◌, ℕ, ◌+◌, ◌≤◌, length, sym, ap, ◌∙◌}
+use Rattle.std.proofs.Common.{◌≡◌, ◌+◌, length, sym, ap, ◌∙◌}
 use Rattle.ring.specs.View.{Fine, arcs_of, slots_of}
 use Rattle.ring.specs.declared.ring.Ring.{Ring}
 use Rattle.heap.specs.declared.counts.Counts.{Counts}

@@ -1,5 +1,5 @@
 -- Records of a kind in a list, by their meanings.
-use Rattle.std.proofs.Common.{◌≡◌, ℕ, ◌<◌, List, map, length, get_or, set, ℤ, sym, refl, ap, ◌∙◌}
+use Rattle.std.proofs.Common.{◌≡◌, ℕ, ◌<◌, List, map, length, get_or, set, sym, ap, ◌∙◌}
 use Rattle.std.proofs.lemmas.List.{get_or-map, map-set}
 use Rattle.kinds.specs.declared.kind.Kind.{Ghosts}
 use Rattle.rules.specs.Rules.{Record, no_record, with_link, set_link}

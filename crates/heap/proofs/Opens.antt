@@ -1,5 +1,5 @@
 -- Opening: closed by a size or by a table, or open.
-use Rattle.std.proofs.Common.{◌≡◌, ℕ, ◌≤◌, Bool, true, false, cond, ◌&&◌, eqb, leb, ℤ, pos, negsuc, Some, None, Option, sym, refl, ap, ◌∙◌, arith}
+use Rattle.std.proofs.Common.{◌≡◌, ℕ, ◌≤◌, Bool, true, false, cond, ◌&&◌, eqb, leb, ℤ, pos, negsuc, Some, None, sym, refl, ap, ◌∙◌, arith}
 use Rattle.std.proofs.lemmas.Bool.{and_parts}
 use Rattle.std.proofs.lemmas.Bool.Decides.{nat_tests}
 use Rattle.kinds.specs.declared.kind.Kind.{Ghosts}
@@ -7,7 +7,7 @@ use Rattle.heap.specs.declared.sizes.Sizes.{Sizes}
 use Rattle.heap.specs.declared.heap.Limits.{Limits}
 use Rattle.heap.specs.declared.heap.tables.Tables.{Tables}
 use Rattle.heap.specs.Opening.{from_one_to, natural, sizes_in_range, limits_asked, limits_of, tables_long, why_of}
-use Rattle.heap.specs.State.{State, opened, open_at, closed_state, sizes_in, sizes_of}
+use Rattle.heap.specs.State.{opened, open_at, closed_state, sizes_in, sizes_of}
 
 -- what no limits, and what limits tell
 asked_out : (t : Bool) (l : Limits) → None ≡ cond t (Some l) None → t ≡ false

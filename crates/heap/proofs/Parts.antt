@@ -1,6 +1,6 @@
 -- A write and a cycle from their parts: stores that differ in one field, one after another.
-use Rattle.std.proofs.Common.{◌≡◌, ℕ, Bool, true, false, cond, not, ◌&&◌, leb, List, [], ◌∷◌, ◌++◌, length, is_some, None, unwrap_or, sym, ap, ◌∙◌}
-use Rattle.ring.specs.Arcs.{Arcs, marked, scan_slot}
+use Rattle.std.proofs.Common.{◌≡◌, ℕ, Bool, true, false, cond, not, ◌&&◌, leb, [], ◌∷◌, ◌++◌, length, is_some, None, unwrap_or, sym, ap, ◌∙◌}
+use Rattle.ring.specs.Arcs.{marked, scan_slot}
 use Rattle.ring.specs.Calls.{left_by, scanned_slot, scanned_arcs}
 use Rattle.heap.specs.Scans.{scans_one, scanned_one}
 use Rattle.heap.proofs.Slots.{none_moved}

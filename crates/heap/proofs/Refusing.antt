@@ -1,11 +1,11 @@
 -- Calls that are refused, and what accepted arguments tell.
-use Rattle.std.proofs.Common.{◌≡◌, ℕ, ◌<◌, Bool, true, false, cond, ◌&&◌, eqb, ltb, List, [], length, get_or, set, ℤ, Some, None, Ok, Err, Option, Result, sym, refl, ap, ◌∙◌, subst, arith, w64, SFits, to_z, of_z}
+use Rattle.std.proofs.Common.{◌≡◌, ℕ, Bool, true, false, cond, ◌&&◌, eqb, ltb, List, [], length, set, ℤ, Some, None, Ok, Err, Result, sym, refl, ap, ◌∙◌, subst, arith, w64, SFits, to_z, of_z}
 use Rattle.std.proofs.lemmas.Int.{to_z-of_z}
 use Rattle.words.specs.Words.{is_number, number_word, number_word_of}
 use Rattle.words.specs.declared.fault.WordFault.{WordFault}
 use Rattle.words.specs.declared.fault.WordFault.TheVariants.{NumberOutOfRange}
 use Rattle.words.specs.declared.place.Place.{Place}
-use Rattle.rules.specs.Rules.{Barrier, Sizes, Store, Call, Answer, make, refused, done, in_range, index, all_in, reg, put, place_in, with_registers, run_call}
+use Rattle.rules.specs.Rules.{Barrier, Sizes, Store, Call, make, refused, done, in_range, index, all_in, reg, put, place_in, with_registers, run_call}
 use Rattle.kinds.specs.Faults.{store_refusal}
 use Rattle.kinds.specs.declared.fault.StoreFault.{StoreFault}
 use Rattle.kinds.specs.declared.fault.StoreFault.TheVariants.{SizeOutOfRange, TableShort, NoSuchRegister, Word, NoSuchLink, WrongLinkCount, BadDose, Closed, NoRecord, NurseryFull, NoRoom, NotesFull, EndlessChain}

@@ -1,13 +1,12 @@
 -- What the tables of a heap hold, as a state of the rules, and what always holds of them.
 use Rattle.std.specs.Prelude.{◌≡◌, ℕ, suc, ◌+◌, ◌<◌, ◌≤◌, List, [], ◌∷◌, map, length, take, drop, Some, None, Option, slice_index_or}
 use Rattle.ring.specs.View.{arcs_of, slots_of, is_open_of, Fine, Beyond}
-use Rattle.rules.specs.Rules.{Record, Sizes, Store, Evacuation}
+use Rattle.rules.specs.Rules.{Sizes, Store, Evacuation}
 use Rattle.kinds.specs.declared.kind.Kind.{Ghosts}
 use Rattle.ring.specs.declared.ring.Ring.{Ring}
 use Rattle.heap.specs.declared.counts.Counts.{Counts}
 use Rattle.heap.specs.declared.heap.Heap.{Heap}
 use Rattle.heap.specs.declared.rows.Forward.{Forward}
-use Rattle.heap.specs.declared.rows.Note.{Note}
 use Rattle.heap.specs.Answers.{told_why}
 use Rattle.heap.specs.Meaning.{meaning_of}
 use Rattle.heap.specs.State.{State}

@@ -1,5 +1,7 @@
 // The heap of a store: records in a nursery and an old area over lent tables, and the calls on them. The calls ask for a
 // sound heap and leave one.
+#![tactic(auto)]
+
 pub mod counts;
 pub mod heap;
 pub mod records;

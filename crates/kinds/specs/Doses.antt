@@ -1,5 +1,5 @@
 -- Doses: which numbers build one, and what a row means.
-use Rattle.std.specs.Prelude.{ℕ, zero, suc, ◌%◌, Bool, true, false, cond, List, [], ◌∷◌, ℤ, pos, negsuc, Ok, Err, Result, nat_le}
+use Rattle.std.specs.Prelude.{ℕ, zero, suc, ◌%◌, cond, List, [], ◌∷◌, ℤ, pos, negsuc, Ok, Err, Result, nat_le}
 use Rattle.kinds.specs.declared.dose.Dose.{Dose}
 use Rattle.kinds.specs.declared.dose.Mark.{Mark}
 use Rattle.kinds.specs.declared.dose.Mark.TheVariants.{Dose as Dosed, Flush}

@@ -1,5 +1,5 @@
 -- Calls that write or read one register.
-use Rattle.std.proofs.Common.{◌≡◌, ℕ, zero, suc, ◌+◌, ◌<◌, ◌≤◌, Bool, true, false, cond, ◌&&◌, eqb, ltb, List, [], ◌∷◌, ◌++◌, length, get_or, take, drop, set, replicate, ℤ, pos, negsuc, Ok, Err, Result, sym, refl, ap, ◌∙◌, subst, arith, w64, SFits, to_z, of_z}
+use Rattle.std.proofs.Common.{◌≡◌, ℕ, zero, suc, ◌<◌, Bool, true, false, cond, eqb, ltb, List, [], ◌∷◌, get_or, take, set, ℤ, pos, negsuc, Ok, Err, Result, sym, refl, ap, ◌∙◌, arith, w64, SFits, to_z, of_z}
 use Rattle.std.proofs.lemmas.Int.{to_z-of_z}
 use Rattle.std.proofs.lemmas.List.{get_or-take}
 use Rattle.std.proofs.lemmas.Bool.Decides.{nat_tests}
@@ -7,7 +7,7 @@ use Rattle.words.specs.Words.{is_number, number_word, number_word_of}
 use Rattle.words.specs.declared.fault.WordFault.TheVariants.{NumberOutOfRange}
 use Rattle.rules.specs.Rules.{Barrier, Sizes, Store, Call, Answer, load, empty, copy, same, look, counts, flag, do_look, refused, done, ok, put, reg, in_range, index, with_registers, run_call}
 use Rattle.kinds.specs.declared.fault.StoreFault.{StoreFault}
-use Rattle.kinds.specs.declared.fault.StoreFault.TheVariants.{NoSuchRegister, Closed}
+use Rattle.kinds.specs.declared.fault.StoreFault.TheVariants.{NoSuchRegister}
 use Rattle.registers.specs.Answers.{told_why, ready_at, register_at}
 use Rattle.registers.specs.State.{State, after, answer}
 

@@ -1,5 +1,5 @@
 -- The typed results of the calls, as the answers that the rules define: each case by its number and values.
-use Rattle.std.specs.Prelude.{ℕ, Bool, true, false, cond, List, [], ◌∷◌, ℤ, pos, Ok, Err, Result}
+use Rattle.std.specs.Prelude.{ℕ, Bool, true, cond, List, [], ◌∷◌, ℤ, pos, Ok, Err, Result}
 use Rattle.words.specs.Words.{is_number}
 use Rattle.rules.specs.Rules.{Answer, refused, done, counts, flag, in_range, index}
 use Rattle.kinds.specs.declared.fault.StoreFault.TheVariants.{NoSuchRegister, Closed}

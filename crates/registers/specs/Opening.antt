@@ -1,5 +1,5 @@
 -- Opening a store: which sizes are in range, which tables are long enough, and what a new store holds.
-use Rattle.std.specs.Prelude.{ℕ, ◌≤◌, Bool, true, false, cond, ◌&&◌, ℤ, pos, negsuc, Some, None, Option, nat_le}
+use Rattle.std.specs.Prelude.{ℕ, Bool, false, cond, ◌&&◌, ℤ, pos, negsuc, Some, None, Option, nat_le}
 use Rattle.registers.specs.declared.sizes.Sizes.{Sizes}
 
 -- a whole number from 1 to n, and the number that it is

@@ -1,6 +1,5 @@
 -- What a store holds, open or closed, and what each call leaves and answers.
-use Rattle.std.specs.Prelude.{ℕ, Bool, true, false, cond, List, [], ◌==◌}
-use Rattle.ring.specs.Arcs.{new_arcs}
+use Rattle.std.specs.Prelude.{ℕ, Bool, cond, [], ◌==◌}
 use Rattle.rules.specs.Rules.{Barrier, Sizes, Store, Call, Answer, refused, run_call, new_store}
 use Rattle.registers.specs.declared.sizes.Sizes.{Sizes as Asked}
 use Rattle.registers.specs.Opening.{natural, why_of}

@@ -1,5 +1,5 @@
 -- What the tables of a heap hold, as a state of the rules.
-use Rattle.std.specs.Prelude.{◌≡◌, ℕ, ◌≤◌, false, cond, [], length, take, drop, Some, None, Option}
+use Rattle.std.specs.Prelude.{◌≡◌, ◌≤◌, false, cond, [], length, take, drop, Some, None, Option}
 use Rattle.ring.specs.Arcs.{new_arcs}
 use Rattle.registers.specs.declared.heap.Heap.{Heap}
 use Rattle.registers.specs.declared.heap.Limits.{Limits}

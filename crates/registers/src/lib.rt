@@ -1,4 +1,6 @@
 // The registers of a store over a lent table, with the calls that need no record. The sheet runs on them.
+#![tactic(auto)]
+
 pub mod heap;
 pub mod seen;
 pub mod sizes;

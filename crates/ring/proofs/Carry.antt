@@ -1,5 +1,5 @@
 -- A slot that is carried along a ring, over tables.
-use Rattle.std.proofs.Common.{◌≡◌, ℕ, ◌+◌, ◌-◌, ◌<◌, ◌≤◌, List, [], ◌∷◌, ◌++◌, length, get_or, set, sym, refl, ap, ◌∙◌, subst, append_assoc, arith}
+use Rattle.std.proofs.Common.{◌≡◌, ℕ, ◌<◌, ◌≤◌, List, [], ◌∷◌, ◌++◌, length, get_or, set, sym, refl, ap, ◌∙◌, subst, append_assoc, arith}
 use Rattle.std.proofs.lemmas.List.{length-append, length-set, get_or-set_same, get_or-set_other}
 use Rattle.ring.specs.Sound.{hit, count, Chained, Ringed, Starts}
 use Rattle.ring.proofs.Chain.{hit_same, count_append, count_cons, last_of, lastOf_in, lastOf_append, chained_ends, rotate, unlink, insert}

@@ -1,5 +1,5 @@
 -- Shading keeps the order of the arcs.
-use Rattle.std.proofs.Common.{◌≡◌, ℕ, Bool, true, false, eqb, ◌⊎◌, List, [], ◌∷◌, ◌++◌, sym, refl, ap, ◌∙◌, subst, ⊎_elim}
+use Rattle.std.proofs.Common.{◌≡◌, ℕ, Bool, true, false, eqb, List, [], ◌∷◌, ◌++◌, sym, refl, ap, ◌∙◌, subst, ⊎_elim}
 use Rattle.std.proofs.lemmas.Bool.{cases_eq, eq-eqb, ne_eqb, both_ways, or_cases, cond-true, cond-false}
 use Rattle.ring.specs.Arcs.{Arcs, has, without, shade_slot}
 use Rattle.ring.specs.Laws.{KeepsOrder}

@@ -1,4 +1,6 @@
 // The ring of slots: four arcs in lent tables.
+#![tactic(auto)]
+
 pub mod arcs;
 pub mod ring;
 mod tables;

@@ -1,8 +1,8 @@
 -- The chain of a register in the store is that of the book.
-use Rattle.std.proofs.Common.{◌≡◌, ℕ, ◌<◌, List, [], ◌∷◌, length, get_or, ℤ, Some, None, Option, sym, refl, ap, ◌∙◌, subst, arith}
-use Rattle.words.specs.Words.{nothing, number_word, place_of}
+use Rattle.std.proofs.Common.{◌≡◌, ℕ, List, [], ◌∷◌, length, get_or, ℤ, Some, None, refl, ap, ◌∙◌, subst, arith}
+use Rattle.words.specs.Words.{place_of}
 use Rattle.words.specs.declared.place.Place.{Place}
-use Rattle.rules.specs.Rules.{Sizes, in_store, record_at}
+use Rattle.rules.specs.Rules.{Sizes, in_store}
 use Rattle.rules.specs.Book.{BookWord, nil, num, ref, book_record}
 use Rattle.rules.specs.History.{History, Holds, history_run, new_history}
 use Rattle.rules.specs.Promise.{StandsFor}

@@ -3,7 +3,7 @@ use Rattle.std.proofs.Common.{◌≡◌, ℕ, suc, ◌+◌, ◌<◌, ◌≤◌, 
 use Rattle.words.specs.Words.{place_of}
 use Rattle.words.specs.declared.place.Place.{Place}
 use Rattle.words.specs.declared.place.Place.TheVariants.{Young, Old}
-use Rattle.ring.specs.Arcs.{Arcs, has, marked, without}
+use Rattle.ring.specs.Arcs.{Arcs, has, without}
 use Rattle.rules.specs.Rules.{Record, Barrier, Lawful, shade, shade_if, shade_all, shade_place, link_at}
 use Rattle.rules.specs.Book.{BookWord, nil, num, ref, BookRecord, no_book_record, Book, book_record, Reachable, held, linked}
 use Rattle.rules.specs.History.{History, HoldsIn}

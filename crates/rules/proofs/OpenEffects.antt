@@ -5,7 +5,7 @@ use Rattle.words.specs.declared.place.Place.{Place}
 use Rattle.words.specs.declared.place.Place.TheVariants.{Young, Old}
 use Rattle.ring.specs.Arcs.{Arcs, has, marked}
 use Rattle.rules.specs.Rules.{Record, no_record, Barrier, Lawful, Sizes, with_plain, shade_if, barrier_shades, link_at, set_link}
-use Rattle.rules.specs.Book.{BookWord, nil, ref, BookRecord, no_book_record, Book, book_record, Reachable, held, linked}
+use Rattle.rules.specs.Book.{BookWord, nil, ref, BookRecord, no_book_record, Book, book_record, Reachable}
 use Rattle.rules.specs.History.{History, Holds}
 use Rattle.rules.specs.Promise.{StandsFor}
 use Rattle.std.proofs.lemmas.Bool.{or_right}

@@ -3,7 +3,7 @@ use Rattle.std.proofs.Common.{◌≡◌, ℕ, suc, ◌+◌, ◌-◌, ◌*◌, �
 use Rattle.words.specs.declared.place.Place.{Place}
 use Rattle.words.specs.declared.place.Place.TheVariants.{Young, Old}
 use Rattle.ring.specs.Arcs.{Arcs, has, without, marked, open_arcs}
-use Rattle.rules.specs.Rules.{Barrier, Lawful, Sizes, same, visit_all, link_at}
+use Rattle.rules.specs.Rules.{Barrier, Lawful, Sizes, visit_all, link_at}
 use Rattle.rules.specs.Book.{Book, Reachable}
 use Rattle.rules.specs.History.{History}
 use Rattle.rules.specs.Promise.{Counted, cycle_steps}

@@ -4,7 +4,7 @@ use Rattle.words.specs.Words.{place_of}
 use Rattle.words.specs.declared.place.Place.TheVariants.{Old}
 use Rattle.ring.specs.Arcs.{Arcs, has, split_last, scan_from}
 use Rattle.rules.specs.Rules.{no_record, Barrier, Lawful, Sizes, with_arcs, shade_all, link_at, scan_taken, scan_next, scan_upto}
-use Rattle.rules.specs.Book.{ref, Book, held, linked}
+use Rattle.rules.specs.Book.{ref, Book}
 use Rattle.rules.specs.History.{History, Holds}
 use Rattle.rules.specs.Promise.{StandsFor}
 use Rattle.std.proofs.lemmas.Bool.{cases_eq, true≢false}

@@ -1,5 +1,5 @@
 -- The table of worked cases: each follows from the rules by computation.
-use Rattle.std.specs.Prelude.{◌≡◌, ℕ, suc, ◌-◌, cond, List, [], ◌∷◌, ◌++◌, map, length, replicate, ℤ, pos, ◌==◌}
+use Rattle.std.specs.Prelude.{◌≡◌, ℕ, suc, ◌-◌, cond, List, [], ◌∷◌, ◌++◌, length, replicate, ℤ, pos, ◌==◌}
 use Rattle.words.specs.Cases.{WordCases}
 use Rattle.rules.specs.Rules.{no_record, Barrier, Sizes, Store, Call, load, empty, make, tell, step, Answer, refused, done, gave, counts, run_call, new_store, snapshot}
 use Rattle.rules.specs.Promise.{slots_for}

@@ -1,7 +1,7 @@
 -- Chains of records along link 0, in the store and in the book, and what tally answers.
 use Rattle.std.specs.Prelude.{◌≡◌, ℕ, zero, suc, ◌+◌, ◌<◌, Bool, cond, ◌↔◌, List, [], ◌∷◌, map, length, ℤ, pos, negsuc, Some, None, Option, ◌==◌, slice_index, slice_index_or}
 use Rattle.words.specs.declared.place.Place.{Place}
-use Rattle.rules.specs.Rules.{Sizes, Store, Call, Answer, refused, counts, in_range, reg, place_in, record_at}
+use Rattle.rules.specs.Rules.{Sizes, Store, Answer, refused, counts, in_range, reg, place_in, record_at}
 use Rattle.rules.specs.Book.{BookWord, nil, num, ref, Book, book_record}
 use Rattle.rules.specs.History.{History}
 use Rattle.rules.specs.Statements.{OfEveryRun, after}

@@ -7,7 +7,6 @@ use Rattle.kinds.specs.declared.kind.Kind.{Ghosts}
 use Rattle.heap.specs.Answers.{told_done}
 use Rattle.heap.specs.State.{State, answer}
 use Rattle.store.specs.declared.call.Call.{Call}
-use Rattle.store.specs.declared.call.Answer.{Answer}
 use Rattle.store.specs.declared.call.Answer.TheVariants.{Done}
 use Rattle.store.specs.Calls.{Outcome, call_of, as_answer, told_call, Suits, Answers}
 

@@ -1,5 +1,5 @@
 -- A store that was opened: its sizes are in range, and the promise holds of its calls.
-use Rattle.std.proofs.Common.{◌≡◌, ℕ, ◌<◌, ◌≤◌, Bool, true, false, cond, ◌&&◌, eqb, leb, ◌⊎◌, List, [], ◌∷◌, ◌++◌, map, length, take, ℤ, pos, negsuc, sym, refl, ap, ◌∙◌, subst, arith, length-take}
+use Rattle.std.proofs.Common.{◌≡◌, ℕ, ◌≤◌, Bool, true, false, cond, ◌&&◌, eqb, leb, ◌⊎◌, List, [], map, length, take, ℤ, pos, negsuc, sym, refl, ap, ◌∙◌, subst, arith, length-take}
 use Rattle.std.proofs.lemmas.List.{length-map}
 use Rattle.std.proofs.lemmas.Bool.{and_parts, true≢false}
 use Rattle.std.proofs.lemmas.Bool.Decides.{nat_tests}
@@ -16,7 +16,7 @@ use Rattle.heap.specs.declared.heap.tables.Tables.{Tables}
 use Rattle.heap.specs.declared.sizes.Sizes.{Sizes as Asked}
 use Rattle.heap.specs.Meaning.{meaning_of}
 use Rattle.heap.specs.Opening.{from_one_to, natural, sizes_in_range, tables_long, why_of}
-use Rattle.heap.specs.State.{State, open_at, closed_state, opened, sizes_of}
+use Rattle.heap.specs.State.{open_at, closed_state, opened, sizes_of}
 use Rattle.heap.specs.View.{contents, view, Rest, Frame}
 use Rattle.heap.specs.Lent.{Lent}
 use Rattle.store.specs.declared.call.Call.{Call}

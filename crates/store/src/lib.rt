@@ -1,4 +1,6 @@
 // The store: its calls over lent tables, one by one and as a list.
+#![tactic(auto)]
+
 pub mod call;
 pub mod calling;
 pub mod run;

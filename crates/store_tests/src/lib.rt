@@ -1,3 +1,5 @@
+#![tactic(auto)]
+
 // The store on examples.
 #[cfg(test)]
 mod dose_tests;

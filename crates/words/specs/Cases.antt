@@ -1,7 +1,6 @@
 -- Worked cases about words; the table of all worked cases takes them over.
-use Rattle.std.specs.Prelude.{◌≡◌, pos, negsuc, Some, None, Option}
-use Rattle.words.specs.declared.word.Word.{Word}
-use Rattle.words.specs.declared.word.Word.TheVariants.{Nothing, Number, Nursery, Slot}
+use Rattle.std.specs.Prelude.{◌≡◌, pos, negsuc, Some, None}
+use Rattle.words.specs.declared.word.Word.TheVariants.{Number, Nursery, Slot}
 use Rattle.words.specs.Words.{meaning, encoded}
 
 pub record WordCases : Type 0 where

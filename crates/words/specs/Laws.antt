@@ -1,5 +1,5 @@
 -- The laws of words: a relation that says which number means what, and what follows from it.
-use Rattle.std.specs.Prelude.{◌≡◌, ℕ, ◌+◌, ◌*◌, ◌^◌, ◌<◌, true, ◌↔◌, ℤ, pos, Some, None, unsigned_abs}
+use Rattle.std.specs.Prelude.{◌≡◌, ℕ, ◌+◌, ◌*◌, ◌^◌, ◌<◌, true, ◌↔◌, pos, Some, unsigned_abs}
 use Rattle.std.specs.Int.{int_rem_euclid}
 use Rattle.words.specs.declared.word.Word.{Word}
 use Rattle.words.specs.declared.word.Word.TheVariants.{Nothing, Number, Nursery, Slot}

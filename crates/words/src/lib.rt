@@ -1,4 +1,6 @@
 // What a 32-bit word of a register or a link means: nothing, a number, a nursery place or an old slot.
+#![tactic(auto)]
+
 pub mod fault;
 pub mod place;
 #[cfg(test)]

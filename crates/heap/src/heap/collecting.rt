@@ -46,10 +46,10 @@ impl<T: Kind, B: Barrier> Heap<'_, T, B> {
     {
         self.ready()?;
         let was_open = self.ring.is_open();
-        let copied = self.empty_nursery(was_open && B::rescans());
+        let moved = self.empty_nursery(was_open && B::rescans());
         let collected = self.collect_all(was_open);
         Ok(Stepped {
-            copied,
+            copied: moved,
             scanned: collected.scanned,
             freed: collected.freed,
             cycle_open: false,

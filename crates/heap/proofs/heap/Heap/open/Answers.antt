@@ -1,4 +1,4 @@
-use Rattle.std.proofs.Common.{sym, ap, ◌∙◌, arith}
+use Rattle.std.proofs.Common.{sym, ◌∙◌}
 use Rattle.heap.proofs.Opens.{closed_by_size, closed_by_table, opened_at, limits_low}
 use Rattle.heap.proofs.heap.Heap.open.Goals as goal
 

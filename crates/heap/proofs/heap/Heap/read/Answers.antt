@@ -1,4 +1,4 @@
-use Rattle.std.proofs.Common.{get_or, Err, sym, refl, ap, ◌∙◌}
+use Rattle.std.proofs.Common.{get_or, Err, refl, ap, ◌∙◌}
 use Rattle.std.proofs.lemmas.Result.{err_from_is_err_and}
 use Rattle.kinds.specs.declared.fault.StoreFault.TheVariants.{NoSuchRegister}
 use Rattle.rules.specs.Rules.{read, index, record_at}

@@ -1,5 +1,5 @@
 use Rattle.std.proofs.Common.{◌≡◌, suc, ◌+◌, ◌-◌, sym, ap, ◌∙◌, arith}
-use Rattle.rules.specs.Chains.{all_places, follow, tally_answer}
+use Rattle.rules.specs.Chains.{all_places, follow}
 use Rattle.heap.specs.Tallies.{follow_words, tally_with}
 use Rattle.heap.specs.View.{view}
 use Rattle.heap.proofs.Tallying.{follow_is, tally_begins, tally_ends, tally_turn}

@@ -1,4 +1,4 @@
-use Rattle.std.proofs.Common.{◌≡◌, sym, ap, ◌∙◌, subst}
+use Rattle.std.proofs.Common.{sym, ap, ◌∙◌, subst}
 use Rattle.rules.specs.Rules.{do_write}
 use Rattle.heap.specs.Answers.{Within}
 use Rattle.heap.specs.State.{with_store}

@@ -1,6 +1,6 @@
 use Rattle.std.proofs.Common.{ap, ◌∙◌}
 use Rattle.heap.specs.State.{with_store}
-use Rattle.heap.specs.View.{view, contents}
+use Rattle.heap.specs.View.{view}
 use Rattle.heap.proofs.Collections.{view_framed}
 use Rattle.heap.proofs.Parts.{old_written, old_refused}
 use Rattle.heap.proofs.heap.Heap.write_slot.Goals as goal

@@ -1,4 +1,4 @@
-use Rattle.std.proofs.Common.{◌≡◌, Some, sym, ap, ◌∙◌, w32, SFits, rules}
+use Rattle.std.proofs.Common.{Some, sym, ap, ◌∙◌, w32, SFits, rules}
 use Rattle.std.proofs.lemmas.Int.{to_z-of_z}
 use Rattle.words.specs.declared.word.Word.TheVariants.{Number}
 use Rattle.words.proofs.Laws.{meaning_number, as_stated, one_meaning}
