@@ -1,4 +1,6 @@
 // The lines of a sheet: what a line asks for, in fixed columns, and answer lines.
+#![tactic(auto)]
+
 pub mod answer;
 pub mod column;
 pub mod command;

@@ -1,4 +1,6 @@
 // The sheet program: reads a sheet from standard input and writes its answers to standard output.
+#![tactic(auto)]
+
 ghost use Rattle.std.specs.Prelude.{◌≡◌};
 ghost use Rattle.movdieka_pairs.specs.declared.ProgramFault.TheVariants.{Stream, Row};
 

@@ -1,14 +1,14 @@
 -- Opening over the tables that the sheet lends.
-use Rattle.std.proofs.Common.{◌≡◌, ℕ, zero, suc, ◌≤◌, Bool, true, false, cond, ◌&&◌, eqb, leb, List, [], ◌∷◌, map, take, replicate, sym, refl, ap, ◌∙◌, arith}
+use Rattle.std.proofs.Common.{◌≡◌, ℕ, zero, suc, ◌≤◌, Bool, true, false, cond, ◌&&◌, eqb, leb, ◌∷◌, map, take, replicate, sym, refl, ap, ◌∙◌, arith}
 use Rattle.std.proofs.lemmas.List.{take-replicate}
-use Rattle.std.proofs.lemmas.Bool.{cond-true, cond-false}
+use Rattle.std.proofs.lemmas.Bool.{cond-false}
 use Rattle.std.proofs.lemmas.Bool.Decides.{nat_tests}
-use Rattle.rules.specs.Rules.{Record, new_store}
+use Rattle.rules.specs.Rules.{new_store}
 use Rattle.heap.specs.declared.sizes.Sizes.{Sizes}
 use Rattle.heap.specs.Meaning.{meaning_of}
 use Rattle.heap.specs.Opening.{natural, sizes_in_range}
 use Rattle.heap.specs.State.{State, sizes_of}
-use Rattle.pair_sheet.specs.Pairs.{pairs, register_count, place_count, slot_count, within_lent, why_pairs, empty_pair, new_pairs, closed_pairs, pairs_opened}
+use Rattle.pair_sheet.specs.Pairs.{pairs, register_count, place_count, slot_count, within_lent, why_pairs, empty_pair, closed_pairs, pairs_opened}
 
 -- what the store tests of the eight tables, one after the other
 abbrev long : Sizes → Bool

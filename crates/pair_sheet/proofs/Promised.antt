@@ -1,11 +1,11 @@
 -- A sheet's lines keep the main promise: the log of the lines stands beside the sheet's state.
-use Rattle.std.proofs.Common.{◌≡◌, ℕ, ◌≤◌, Bool, true, false, cond, ◌&&◌, eqb, leb, List, [], ◌∷◌, ◌++◌, length, replicate, ℤ, pos, negsuc, Ok, Err, Result, sym, refl, ap, ◌∙◌, subst, inl, inr, arith}
+use Rattle.std.proofs.Common.{◌≡◌, ℕ, ◌≤◌, Bool, true, false, cond, ◌&&◌, eqb, List, [], ◌∷◌, ◌++◌, ℤ, pos, negsuc, Ok, Err, Result, sym, refl, ap, ◌∙◌, inl, inr, arith}
 use Rattle.std.proofs.lemmas.List.{length-replicate}
-use Rattle.std.proofs.lemmas.Bool.{cond-true, cond-false, true≢false}
+use Rattle.std.proofs.lemmas.Bool.{cond-false, true≢false}
 use Rattle.std.proofs.lemmas.Bool.Decides.{nat_tests}
-use Rattle.rules.specs.Rules.{Barrier, Lawful, Sizes, Call, run_call, snapshot, update}
+use Rattle.rules.specs.Rules.{Barrier, Lawful, Sizes, Call}
 use Rattle.rules.specs.History.{History, history_call, history_run, new_history}
-use Rattle.rules.specs.Promise.{InRange, Promise}
+use Rattle.rules.specs.Promise.{InRange}
 use Rattle.rules.proofs.Statements.{nothing_in_use_is_taken_back}
 use Rattle.heap.specs.declared.sizes.Sizes.{Sizes as Asked}
 use Rattle.heap.specs.Opening.{from_one_to, natural, sizes_in_range}
@@ -16,10 +16,10 @@ use Rattle.lines.specs.declared.request.FormatFault.{FormatFault}
 use Rattle.lines.specs.declared.request.Request.{Request}
 use Rattle.lines.specs.Answers.{row_bytes}
 use Rattle.lines.specs.Lines.{lines}
-use Rattle.pair_sheet.specs.Pairs.{empty_pair, within_lent, why_pairs, new_pairs, closed_pairs, pairs_opened}
+use Rattle.pair_sheet.specs.Pairs.{empty_pair, within_lent, why_pairs, new_pairs, closed_pairs}
 use Rattle.lines.specs.Requests.{parsed}
-use Rattle.pair_sheet.specs.Sheets.{SheetState, waiting, running, Order, opening, calling, order, order_of, reply_of, state_opened, state_after_order, state_after_request, state_after_line, reply_to_order, reply_to_request, reply_to_line, row_of_reply, next_line, written_for, sheet_output}
-use Rattle.pair_sheet.specs.Promised.{Log, unopened, since, log_after_order, log_after_request, log_after_line, log_after, state_after, new_slots, history_of, state_of, book_reply_to_order, book_reply_to_request, book_reply_to_line, written_by_book, Promised, SheetPromise}
+use Rattle.pair_sheet.specs.Sheets.{running, Order, opening, calling, order, order_of, reply_of, state_opened, state_after_order, state_after_request, state_after_line, reply_to_order, reply_to_request, row_of_reply, next_line, written_for}
+use Rattle.pair_sheet.specs.Promised.{Log, unopened, since, log_after_order, log_after_request, log_after_line, log_after, state_after, new_slots, state_of, book_reply_to_order, book_reply_to_request, book_reply_to_line, written_by_book, Promised, SheetPromise}
 
 -- the barrier is lawful, and the sizes are in range
 abbrev Ready : Log → Type 0

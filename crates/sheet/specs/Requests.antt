@@ -1,5 +1,5 @@
 -- What a line asks for, or why it is refused.
-use Rattle.std.specs.Prelude.{◌≡◌, ℕ, ◌+◌, ◌-◌, true, cond, ◌↔◌, List, ◌++◌, take, replicate, ℤ, pos, Some, None, Ok, Err, MatchBool, Option, Result, nat_le}
+use Rattle.std.specs.Prelude.{◌≡◌, ℕ, true, cond, ◌↔◌, List, ◌++◌, take, replicate, ℤ, pos, Some, None, Ok, Err, MatchBool, Option, Result, nat_le}
 use Rattle.std.specs.List.{between}
 use Rattle.sheet.specs.declared.column.Column.{Column}
 use Rattle.sheet.specs.declared.column.Column.TheVariants.{Blank, Number, NoNumber}

@@ -1,5 +1,5 @@
 -- A whole sheet: what each line does and what is written for it.
-use Rattle.std.specs.Prelude.{ℕ, ◌+◌, min, Bool, cond, List, [], ◌∷◌, ◌++◌, take, replicate, ℤ, pos, Ok, Err, Result, ◌==◌}
+use Rattle.std.specs.Prelude.{ℕ, ◌+◌, min, cond, List, [], ◌∷◌, ◌++◌, take, replicate, ℤ, pos, Ok, Err, Result, ◌==◌}
 use Rattle.rules.specs.Rules.{Barrier, Call, load, empty, copy, same, look, Answer, refused, done, gave, snapshot, update}
 use Rattle.registers.specs.declared.sizes.Sizes.{Sizes}
 use Rattle.registers.specs.State.{State, after, answer, opened}

@@ -1,4 +1,6 @@
 // The sheet: commands in fixed columns, one to a line, and answers in fixed columns.
+#![tactic(auto)]
+
 pub mod answer;
 pub mod column;
 pub mod command;

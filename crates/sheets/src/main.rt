@@ -1,4 +1,6 @@
 // Runs the sheets that the arguments name, one after the other, and writes their answers to standard output.
+#![tactic(auto)]
+
 use anyhow::anyhow;
 use std::io::Write;
 use std::{env, fs};

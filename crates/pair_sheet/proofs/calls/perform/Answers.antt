@@ -1,7 +1,6 @@
-use Rattle.std.proofs.Common.{◌≡◌, sym, ap, ◌∙◌, w64, SFits, rules}
-use Rattle.rules.specs.Rules.{write}
+use Rattle.std.proofs.Common.{sym, ap, ◌∙◌, w64, SFits, rules}
 use Rattle.pair_sheet.specs.Pairs.{held}
-use Rattle.pair_sheet.specs.Sheets.{running, calling, order, order_of, state_after_order, reply_to_order, row_of_reply}
+use Rattle.pair_sheet.specs.Sheets.{running, calling, order, state_after_order, reply_to_order, row_of_reply}
 use Rattle.pair_sheet.proofs.Called.{write_passed}
 use Rattle.pair_sheet.proofs.calls.perform.Goals as goal
 

@@ -1,4 +1,4 @@
-use Rattle.std.proofs.Common.{◌≡◌, ℕ, ◌<◌, true, ◌∷◌, length, get_or, pos, sym, ap, ◌∙◌, subst, w64, SFits, rules}
+use Rattle.std.proofs.Common.{◌≡◌, ℕ, ◌<◌, ◌∷◌, length, get_or, pos, sym, ap, ◌∙◌, w64, SFits, rules}
 use Rattle.lines.specs.Answers.{all_fit}
 use Rattle.pair_sheet.specs.Runs.{row_of_result, fits_result}
 use Rattle.pair_sheet.proofs.Runs.{four_values}

@@ -1,4 +1,4 @@
-use Rattle.std.proofs.Common.{◌≡◌, vec_items, sym, ◌∙◌, rules}
+use Rattle.std.proofs.Common.{vec_items, sym, ◌∙◌, rules}
 use Rattle.pair_sheet.specs.Sheets.{waiting, sheet_output}
 use Rattle.pair_sheet.proofs.Promised.{sheet_promise}
 use Rattle.pair_sheet.proofs.Runs.{written_last, all_written, more_to_write}

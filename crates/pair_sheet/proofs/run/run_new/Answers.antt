@@ -1,4 +1,4 @@
-use Rattle.std.proofs.Common.{◌≡◌, vec_items, sym, ◌∙◌}
+use Rattle.std.proofs.Common.{vec_items, sym, ◌∙◌}
 use Rattle.lines.specs.Lines.{lines}
 use Rattle.pair_sheet.specs.Pairs.{held}
 use Rattle.pair_sheet.specs.Runs.{row_of_result}

@@ -1,4 +1,4 @@
-use Rattle.std.proofs.Common.{◌≡◌, ℕ, ◌<◌, true, ◌∷◌, length, get_or, pos, sym, ap, ◌∙◌, subst, w64, SFits, rules}
+use Rattle.std.proofs.Common.{◌≡◌, ℕ, ◌<◌, ◌∷◌, length, get_or, pos, sym, ap, ◌∙◌, w64, SFits, rules}
 use Rattle.sheet.specs.Answers.{all_fit}
 use Rattle.sheet.specs.Runs.{row_of_result, fits_result}
 use Rattle.sheet.proofs.Runs.{four_values}

@@ -1,4 +1,4 @@
-use Rattle.std.proofs.Common.{◌≡◌, vec_items, sym, ◌∙◌}
+use Rattle.std.proofs.Common.{vec_items, sym, ◌∙◌}
 use Rattle.sheet.specs.Sheets.{waiting, sheet_output}
 use Rattle.sheet.proofs.Runs.{written_last, all_written, more_to_write}
 use Rattle.sheet.proofs.run.run.Goals as goal

@@ -1,4 +1,4 @@
-use Rattle.std.proofs.Common.{◌≡◌, vec_items, sym, ◌∙◌}
+use Rattle.std.proofs.Common.{vec_items, sym, ◌∙◌}
 use Rattle.registers.specs.State.{opened}
 use Rattle.registers.specs.View.{view}
 use Rattle.sheet.specs.Lines.{lines}
