@@ -1,6 +1,6 @@
 -- The lines of an input, and which lines are good.
 use Rattle.std.specs.Prelude.{◌≡◌, ℕ, ◌+◌, ◌<◌, min, Bool, true, cond, not, ◌&&◌, List, [], ◌∷◌, ◌++◌, length, drop, ◌==◌, nat_le}
-use Rattle.std.specs.List.{prefix_len, AllByRecursion as All}
+use Rattle.std.specs.List.{prefix_len, AllByRecursion}
 
 -- a byte in front of the first line
 abbrev pub onto_first : ℕ → List (List ℕ) → List (List ℕ)
@@ -25,9 +25,9 @@ pub record LineLaws : Type 0 where
   -- an empty input has none
   pub none : lines [] ≡ []
   -- bytes other than 10 up to a byte 10 are the first line
-  pub ended : (line rest : List ℕ) → All InLine line → lines (line ++ (10 ∷ rest)) ≡ line ∷ lines rest
+  pub ended : (line rest : List ℕ) → AllByRecursion InLine line → lines (line ++ (10 ∷ rest)) ≡ line ∷ lines rest
   -- and so are such bytes up to the end of the input, if there are any
-  pub unended : (line : List ℕ) → All InLine line → 0 < length line → lines line ≡ line ∷ []
+  pub unended : (line : List ℕ) → AllByRecursion InLine line → 0 < length line → lines line ≡ line ∷ []
 
 -- bytes 32 to 126
 abbrev pub printable : List ℕ → Bool

@@ -1,6 +1,6 @@
 -- Lines, from the first byte and from a place in the input.
 use Rattle.std.proofs.Common.{◌≡◌, ℕ, suc, ◌+◌, ◌-◌, ◌<◌, ◌≤◌, Bool, true, false, not, ◌&&◌, eqb, leb, ◌⊎◌, List, [], ◌∷◌, ◌++◌, length, get_or, take, drop, sym, refl, ap, ◌∙◌, ⊎_elim, one-add, arith}
-use Rattle.std.specs.List.{prefix_len, between, AllByRecursion as All}
+use Rattle.std.specs.List.{prefix_len, between, AllByRecursion}
 use Rattle.std.proofs.lemmas.List.{at_drop_more, drop_all, drop-drop, length-drop}
 use Rattle.std.proofs.lemmas.List.Sums.{prefix_len-drop_yes, prefix_len-drop_no, prefix_len-drop_all, prefix_len-le-length}
 use Rattle.std.proofs.lemmas.Bool.{eq-eqb, ne_eqb, cond-true, cond-false, cases_Bool, not_from_true, not_from_false, and_from, and_left, and_right, le-leb, lt-leb}
@@ -64,12 +64,12 @@ lines_more input p within =
     lines_first (drop p input) (omega (arith, length-drop p input)) ∙ ap (λ k. take k (drop p input) ∷ lines (drop (suc n) (drop p input))) size ∙ ap (λ l. between p (line_end input p) input ∷ lines l) (drop-drop (suc n) p input ∙ ap (λ k. drop k input) next)
 
 -- the laws
-ended : (line rest : List ℕ) → All InLine line → lines (line ++ (10 ∷ rest)) ≡ line ∷ lines rest
+ended : (line rest : List ℕ) → AllByRecursion InLine line → lines (line ++ (10 ∷ rest)) ≡ line ∷ lines rest
 unfolding lines
 ended [] rest all = refl
 ended (b ∷ bs) rest (one, all) = cond-false _ _ _ (ne_eqb b 10 one) ∙ ap (onto_first b) (ended bs rest all)
 
-unended : (line : List ℕ) → All InLine line → 0 < length line → lines line ≡ line ∷ []
+unended : (line : List ℕ) → AllByRecursion InLine line → 0 < length line → lines line ≡ line ∷ []
 unfolding lines
 unended [] all some = absurd (omega arith)
 unended (b ∷ []) (one, all) some = cond-false _ _ _ (ne_eqb b 10 one)
