@@ -1,6 +1,8 @@
 // The store: its calls over lent tables, one by one and as a list.
 #![tactic(auto)]
 
+pub use heap::{counts, rows, seen, sizes, stepped};
+
 pub mod call;
 pub mod calling;
 pub mod run;

@@ -1,8 +1,5 @@
 // The store on examples: each refusal, and what the calls answer.
 use heap::heap::tables::Tables;
-use heap::rows::{Forward, Note};
-use heap::seen::Seen;
-use heap::sizes::Sizes;
 use kinds::barrier::{Snapshot, Update};
 use kinds::dose::Dose;
 use kinds::fault::StoreFault;
@@ -10,6 +7,9 @@ use kinds::pair::Pair;
 use ring::arcs::Lengths;
 use std::process::Abort;
 use std::test::Fail;
+use store::rows::{Forward, Note};
+use store::seen::Seen;
+use store::sizes::Sizes;
 use store::store::Store;
 use words::fault::WordFault;
 
