@@ -3,7 +3,7 @@ use Rattle.std.proofs.Common.{◌≡◌, ℕ, ◌+◌, ◌-◌, ◌*◌, ◌^◌
 use native.Mathlib.Nat.{pow-le-pow_right}
 use Rattle.std.specs.Str.Parse.{AllDigits, digits_value, digits_value_after}
 use Rattle.std.specs.Int.{IsInRange}
-use Rattle.std.specs.Char.{digit_value as digitValue}
+use Rattle.std.specs.Char.{digit_value}
 use Rattle.std.proofs.lemmas.Fmt.{decimal_is_IsNumeral, decimal-digits_value, decimal_digit, first_decimal, decimal_nonempty}
 use Rattle.std.proofs.lemmas.Int.Digits.{digits_value-lt}
 use Rattle.std.proofs.lemmas.List.{at_drop_more}
@@ -29,8 +29,8 @@ pub digits_stop : (n : ℕ) (ds : List ℕ) (i : ℕ) → i < length ds → is_d
 digits_stop n ds i h e = at_drop_more (digits_after n) ds i 0 h ∙ cond-false _ _ _ e
 
 -- std's words for the same
-digit_value : (b : ℕ) → IsInRange 48 57 b → digitValue b ≡ b - 48
-digit_value b (low, high) = cond-false _ _ _ (le-ltb b 48 low) ∙ cond-true _ _ _ (lt-ltb b 58 (omega arith))
+digit_back : (b : ℕ) → IsInRange 48 57 b → digit_value b ≡ b - 48
+digit_back b (low, high) = cond-false _ _ _ (le-ltb b 48 low) ∙ cond-true _ _ _ (lt-ltb b 58 (omega arith))
 
 own : IsNumeralModel (AllDigits 10) (digits_value 10)
 own = numerals_by_value (AllDigits 10) tells_digits
@@ -39,7 +39,7 @@ from_digits : (n : ℕ) (ds : List ℕ) → AllDigits 10 ds → digits_after n d
 from_digits n [] d = refl
 from_digits n (b ∷ bs) d =
     let p = tells_digits.parts b bs d in
-    cond-true _ _ _ (digit_yes b p.0.0 p.0.1) ∙ from_digits (n * 10 + (b - 48)) bs p.1 ∙ ap (λ x. Some (digits_value_after 10 (n * 10 + x) bs)) (sym (digit_value b p.0))
+    cond-true _ _ _ (digit_yes b p.0.0 p.0.1) ∙ from_digits (n * 10 + (b - 48)) bs p.1 ∙ ap (λ x. Some (digits_value_after 10 (n * 10 + x) bs)) (sym (digit_back b p.0))
 
 to_digits : (n : ℕ) (ds : List ℕ) (v : ℕ) → digits_after n ds ≡ Some v → AllDigits 10 ds × (v ≡ digits_value_after 10 n ds)
 to_digits n [] v e = (tt, cc)
@@ -47,7 +47,7 @@ to_digits n (b ∷ bs) v e = ⊎_elim
     (λ yes'.
     let in' = digit_in b yes' in
     let r = to_digits (n * 10 + (b - 48)) bs v (sym (cond-true _ _ _ yes') ∙ e) in
-    (tells_digits.more b bs in' r.0, r.1 ∙ ap (λ x. digits_value_after 10 (n * 10 + x) bs) (sym (digit_value b in'))))
+    (tells_digits.more b bs in' r.0, r.1 ∙ ap (λ x. digits_value_after 10 (n * 10 + x) bs) (sym (digit_back b in'))))
     (λ no'. let clash : None ≡ Some v = sym (cond-false _ _ _ no') ∙ e in let z : ◌≡◌ {A = ℕ} 0 1 = cc in absurd (omega arith))
     (cases_Bool (is_digit b))
 
