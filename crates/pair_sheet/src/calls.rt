@@ -142,7 +142,7 @@ fn tell<B: Barrier>(store: &mut Store<'_, Pair, B>) -> Result<[i64; 4], SheetFau
 // One call on an open store.
 pub(crate) fn perform<B: Barrier>(
     store: &mut Store<'_, Pair, B>,
-    request: Request,
+    request: Request<Command>,
 ) -> Result<[i64; 4], SheetFault>
     ensures state { running B.Barrier.answers (held store.new.heap) ≡ state_after_order (running B.Barrier.answers (held store.old.heap)) (order_of request) }
     ensures reply { (n : ℕ) → row_of_result n result ≡ row_of_reply n (reply_to_order (running B.Barrier.answers (held store.old.heap)) (order_of request)) }
