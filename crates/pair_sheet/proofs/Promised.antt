@@ -7,9 +7,9 @@ use Rattle.rules.specs.Rules.{Barrier, Lawful, Sizes, Call}
 use Rattle.rules.specs.History.{History, history_call, history_run, new_history}
 use Rattle.rules.specs.Promise.{InRange}
 use Rattle.rules.proofs.Statements.{nothing_in_use_is_taken_back}
-use Rattle.heap.specs.declared.sizes.Sizes.{Sizes as Asked}
-use Rattle.heap.specs.Opening.{from_one_to, natural, sizes_in_range}
-use Rattle.heap.specs.State.{sizes_of}
+use Rattle.registers.specs.declared.sizes.Sizes.{Sizes as Asked}
+use Rattle.registers.specs.Opening.{from_one_to, natural, sizes_in_range}
+use Rattle.registers.specs.State.{sizes_of}
 use Rattle.lines.specs.declared.command.Command.{Command}
 use Rattle.lines.specs.declared.command.Command.TheVariants.{OpenSnapshot, OpenUpdate, Load, Empty, Copy, Make, Read, Write, Same, Look, Step, Full, Tell}
 use Rattle.lines.specs.declared.request.FormatFault.{FormatFault}

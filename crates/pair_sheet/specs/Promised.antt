@@ -4,7 +4,7 @@ use Rattle.rules.specs.Rules.{Record, Barrier, Sizes, Call, Answer, run_call}
 use Rattle.rules.specs.Book.{book_call}
 use Rattle.rules.specs.History.{History, history_run, new_history}
 use Rattle.rules.specs.Promise.{Promise}
-use Rattle.heap.specs.State.{sizes_of}
+use Rattle.registers.specs.State.{sizes_of}
 use Rattle.lines.specs.declared.command.Command.{Command}
 use Rattle.lines.specs.declared.request.FormatFault.{FormatFault}
 use Rattle.lines.specs.declared.request.Request.{Request}

@@ -1,8 +1,8 @@
 -- A whole sheet: what each line does and what is written for it.
 use Rattle.std.specs.Prelude.{ℕ, ◌+◌, min, cond, List, [], ◌∷◌, ◌++◌, take, replicate, ℤ, pos, Ok, Err, Result, ◌==◌}
 use Rattle.rules.specs.Rules.{Barrier, Call, load, empty, copy, make, read, write, same, look, step, full, tell, Answer, refused, done, gave, snapshot, update}
-use Rattle.heap.specs.declared.sizes.Sizes.{Sizes}
-use Rattle.heap.specs.State.{State, after, answer}
+use Rattle.registers.specs.declared.sizes.Sizes.{Sizes}
+use Rattle.registers.specs.State.{State, after, answer}
 use Rattle.lines.specs.declared.command.Command.{Command}
 use Rattle.lines.specs.declared.command.Command.TheVariants.{OpenSnapshot, OpenUpdate, Load, Empty, Copy, Make, Read, Write, Same, Look, Step, Full, Tell}
 use Rattle.lines.specs.declared.request.FormatFault.{FormatFault}

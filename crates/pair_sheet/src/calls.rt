@@ -1,7 +1,7 @@
 // The calls of a sheet on its open store, and the values that each answers.
 ghost use Rattle.std.specs.Prelude.{◌≡◌, ℕ, true, [], ◌∷◌, pos};
 ghost use Rattle.rules.specs.Rules.{load, empty, copy, make, read, write, same, look, tell, step, full, flag};
-ghost use Rattle.heap.specs.Answers.{seen_values, seen_in_range};
+ghost use Rattle.registers.specs.Answers.{seen_values, seen_in_range};
 ghost use Rattle.lines.specs.Answers.{all_fit};
 ghost use Rattle.pair_sheet.specs.Pairs.{held};
 ghost use Rattle.pair_sheet.specs.Runs.{row_of_result, fits_result, Called};
