@@ -9,8 +9,9 @@ use Rattle.words.specs.declared.place.Place.{Place}
 use Rattle.rules.specs.Rules.{Barrier, Record, Sizes, Store, Call, Answer, make, read, refused, counts, ok, put, record_at, with_registers, with_nursery, links_from, in_range, index, all_in, place_in, with_place, run_call}
 use Rattle.kinds.specs.declared.fault.StoreFault.{StoreFault}
 use Rattle.kinds.specs.declared.fault.StoreFault.TheVariants.{NoSuchRegister, WrongLinkCount, NoRecord, NurseryFull, NoRoom}
-use Rattle.heap.specs.Answers.{told_why, ready_at, found_at, room_at, and_then, open_make_index}
-use Rattle.heap.specs.State.{State, with_store, after, answer}
+use Rattle.registers.specs.Answers.{told_why, ready_at, and_then}
+use Rattle.heap.specs.Answers.{found_at, room_at, open_make_index}
+use Rattle.registers.specs.State.{State, with_store, after, answer}
 
 -- an index of n, or the refusal e
 abbrev pub index_or : StoreFault → ℕ → ℤ → Result ℕ StoreFault

@@ -7,7 +7,7 @@ use Rattle.ring.specs.View.{Kept as Left}
 use Rattle.rules.specs.Rules.{Record, Sizes, new_store}
 use Rattle.heap.specs.declared.heap.tables.Tables.{Tables}
 use Rattle.heap.specs.Opening.{tables_long}
-use Rattle.heap.specs.State.{State}
+use Rattle.registers.specs.State.{State}
 use Rattle.heap.specs.View.{Rest}
 
 -- the test of the tables, each by itself
@@ -51,5 +51,5 @@ pub no_white : (n : ℕ) (a : Arcs) → a ≡ new_arcs n → 0 ≡ length a.whit
 no_white n a e = sym (ap (λ x. length x.white) e)
 
 -- the parts of a new store
-pub new_state : (z : Sizes) (o : List Record) (rs : List ℕ) (a : Arcs) (c : Bool) → rs ≡ replicate z.registers 0 → a ≡ new_arcs z.slots → c ≡ false → ◌≡◌ {A = State} (record { why = 0; sizes = z; store = record { registers = rs; nursery = []; slots = o; arcs = a; notes = []; cycle = c } }) (record { why = 0; sizes = z; store = new_store z o })
-new_state z o rs a c e f g = cc
+pub new_state : (why : ℕ) (z : Sizes) (o : List Record) (rs : List ℕ) (a : Arcs) (c : Bool) → rs ≡ replicate z.registers 0 → a ≡ new_arcs z.slots → c ≡ false → ◌≡◌ {A = State} (record { why = why; sizes = z; store = record { registers = rs; nursery = []; slots = o; arcs = a; notes = []; cycle = c } }) (record { why = why; sizes = z; store = new_store z o })
+new_state why z o rs a c e f g = cc

@@ -4,9 +4,9 @@ use Rattle.words.specs.declared.place.Place.{Place}
 use Rattle.kinds.specs.declared.kind.Kind.{Ghosts}
 use Rattle.rules.specs.Rules.{Barrier, Sizes, Store, refused, counts, flag, in_range, index, reg, place_in, with_place, record_at, put_record, with_plain, ok, gave, write, fill, plain, step, full, run_call, do_write, empty_nursery, scan_and_close, scans_made, freed_after}
 use Rattle.heap.specs.declared.heap.Heap.{Heap}
-use Rattle.heap.specs.Answers.{told_why}
+use Rattle.registers.specs.Answers.{told_why}
 use Rattle.heap.specs.Scans.{with_open_cycle, collected_all, scans_of_all, freed_of_all}
-use Rattle.heap.specs.State.{with_store}
+use Rattle.registers.specs.State.{with_store}
 use Rattle.heap.specs.View.{view, contents, sizes_of_heap, Frame}
 
 -- sizes and status stay, so a state differs only in its contents

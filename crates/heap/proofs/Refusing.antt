@@ -9,8 +9,9 @@ use Rattle.rules.specs.Rules.{Barrier, Sizes, Store, Call, make, refused, done, 
 use Rattle.kinds.specs.Faults.{store_refusal}
 use Rattle.kinds.specs.declared.fault.StoreFault.{StoreFault}
 use Rattle.kinds.specs.declared.fault.StoreFault.TheVariants.{SizeOutOfRange, TableShort, NoSuchRegister, Word, NoSuchLink, WrongLinkCount, BadDose, Closed, NoRecord, NurseryFull, NoRoom, NotesFull, EndlessChain}
-use Rattle.heap.specs.Answers.{told_why, ready_at, register_at, open_register, link_index, held_place, open_record_place, with_index, link_place, room_at, and_then, open_make_index}
-use Rattle.heap.specs.State.{State, is_open, with_store, after, answer}
+use Rattle.registers.specs.Answers.{told_why, ready_at, register_at, open_register, and_then}
+use Rattle.heap.specs.Answers.{link_index, held_place, open_record_place, with_index, link_place, room_at, open_make_index}
+use Rattle.registers.specs.State.{State, is_open, with_store, after, answer}
 use Rattle.heap.proofs.Accepted.{open_after, open_answer, found_tells, lost_tells, ready_tells}
 
 -- a call that is refused: the contents stay, and the answer is the fault's number

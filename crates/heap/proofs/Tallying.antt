@@ -8,8 +8,8 @@ use Rattle.kinds.specs.declared.fault.StoreFault.TheVariants.{NoSuchRegister, Cl
 use Rattle.rules.specs.Rules.{Sizes, Store, Answer, refused, counts, in_range, index, reg, record_at}
 use Rattle.rules.specs.Chains.{leads, first_link, follow, stops, then_on, onto_chain, flushes, flush_weight, parts_at, all_places, tally_of, tally_answer, run_tally}
 use Rattle.rules.proofs.Following.{followed_to_the_end}
-use Rattle.heap.specs.Answers.{told_why, open_register}
-use Rattle.heap.specs.State.{State}
+use Rattle.registers.specs.Answers.{told_why, open_register}
+use Rattle.registers.specs.State.{State}
 use Rattle.heap.specs.Tallies.{ChainOf, ByChain, answer_tally, flush_count, flush_share, follow_words, tally_with}
 use Rattle.heap.proofs.Refusing.{not_zero}
 

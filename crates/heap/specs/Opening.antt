@@ -1,32 +1,10 @@
--- Opening a store: which sizes are in range, and which tables are long enough.
-use Rattle.std.specs.Prelude.{ℕ, Bool, false, cond, ◌&&◌, length, ℤ, pos, negsuc, Some, None, Option, nat_le}
-use Rattle.heap.specs.declared.sizes.Sizes.{Sizes}
-use Rattle.heap.specs.declared.heap.Limits.{Limits}
+-- Opening a store: which tables are long enough, and why a store is closed.
+use Rattle.std.specs.Prelude.{ℕ, Bool, ◌&&◌, length, Result, nat_le}
+use Rattle.kinds.specs.declared.fault.StoreFault.{StoreFault}
+use Rattle.registers.specs.Opening.{natural, limits_with, why_with}
+use Rattle.registers.specs.declared.sizes.Sizes.{Sizes}
+use Rattle.registers.specs.declared.sizes.Limits.{Limits}
 use Rattle.heap.specs.declared.heap.tables.Tables.{Tables}
-
--- a whole number from 1 to n, and the number that it is
-abbrev pub from_one_to : ℕ → ℤ → Bool
-from_one_to n (pos v) = nat_le 1 v && nat_le v n
-from_one_to n (negsuc v) = false
-
-abbrev pub natural : ℤ → ℕ
-natural (pos v) = v
-natural (negsuc v) = 0
-
-abbrev pub size_of : ℕ → ℤ → Option ℕ
-size_of n v = cond (from_one_to n v) (Some (natural v)) None
-
--- S 1 to 16,384, Y 1 to 1,024, R 1 to 64, K 1 to 16,384
-abbrev pub sizes_in_range : Sizes → Bool
-sizes_in_range z =
-    from_one_to 16384 z.slots && (from_one_to 1024 z.places && (from_one_to 64 z.registers && from_one_to 16384 z.scans))
-
--- the sizes as natural numbers, if each is in its range
-abbrev pub limits_asked : Sizes → Limits
-limits_asked z = record { slots = natural z.slots; places = natural z.places; registers = natural z.registers; scans = natural z.scans }
-
-abbrev pub limits_of : Sizes → Option Limits
-limits_of z = cond (sizes_in_range z) (Some (limits_asked z)) None
 
 -- each table has as many places as s slots, y nursery places and r registers ask for
 abbrev pub tables_long : {X : Type 0} → ℕ → ℕ → ℕ → Tables X → Bool
@@ -40,6 +18,14 @@ tables_long s y r t =
     && (nat_le s (length t.previous.now)
     && nat_le s (length t.stamp.now)))))))
 
+-- the tables are long enough for the sizes that are asked for
+abbrev pub long_for : {X : Type 0} → Sizes → Tables X → Bool
+long_for z t = tables_long (natural z.slots) (natural z.places) (natural z.registers) t
+
+-- the sizes, if each is in its range and the tables are long enough
+abbrev pub limits_over : {X : Type 0} → Sizes → Tables X → Result Limits StoreFault
+limits_over z t = limits_with z (long_for z t)
+
 -- what `why` answers: 0 open, 1 a size out of range, 2 a short table; the sizes are tested first
 abbrev pub why_of : {X : Type 0} → Sizes → Tables X → ℕ
-why_of z t = cond (sizes_in_range z) (cond (tables_long (natural z.slots) (natural z.places) (natural z.registers) t) 0 2) 1
+why_of z t = why_with z (long_for z t)

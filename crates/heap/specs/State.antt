@@ -1,51 +1,24 @@
--- What a store holds, open or closed, and what each call leaves and answers.
-use Rattle.std.specs.Prelude.{ℕ, Bool, cond, [], map, take, ◌==◌}
-use Rattle.rules.specs.Rules.{Barrier, Sizes, Store, Call, Answer, refused, run_call, new_store}
+-- What a store over lent tables holds when it is opened.
+use Rattle.std.specs.Prelude.{ℕ, cond, map, take, ◌==◌}
+use Rattle.rules.specs.Rules.{Sizes, new_store}
 use Rattle.kinds.specs.declared.kind.Kind.{Ghosts}
-use Rattle.heap.specs.declared.sizes.Sizes.{Sizes as Asked}
-use Rattle.heap.specs.declared.heap.Limits.{Limits}
+use Rattle.registers.specs.State.{State, sizes_of, closed_at}
+use Rattle.registers.specs.declared.sizes.Sizes.{Sizes as Asked}
 use Rattle.heap.specs.declared.heap.tables.Tables.{Tables}
 use Rattle.heap.specs.Meaning.{meaning_of}
-use Rattle.heap.specs.Opening.{limits_asked, why_of}
+use Rattle.heap.specs.Opening.{why_of}
 
--- why it is closed (0: it is open), its sizes and its contents
-pub record State : Type 0 where
-  pub why : ℕ
-  pub sizes : Sizes
-  pub store : Store
+-- a new store over the first records of the old area, which may be any; why it is closed, if it is
+abbrev pub state_over : {X : Type 0} → Ghosts X → ℕ → Sizes → Tables X → State
+state_over g why z t = record { why = why; sizes = z; store = new_store z (map (meaning_of g) (take z.slots t.slots.now)) }
 
-abbrev pub is_open : State → Bool
-is_open s = s.why == 0
-
--- with other contents
-abbrev pub with_store : State → Store → State
-with_store s x = record { why = s.why; sizes = s.sizes; store = x }
-
--- after a call: an open store goes by the rules, a closed one stays as it is
-abbrev pub after : Barrier → State → Call → State
-after b s c = with_store s (cond (is_open s) (run_call s.sizes b s.store c).0 s.store)
-
--- the answer: a closed store refuses with 20
-abbrev pub answer : Barrier → State → Call → Answer
-answer b s c = cond (is_open s) (run_call s.sizes b s.store c).1 (refused 20)
-
--- the sizes that are asked for, or none, where a record of the kind has n links
-abbrev pub sizes_in : ℕ → Limits → Sizes
-sizes_in n l = record { slots = l.slots; places = l.places; registers = l.registers; scans = l.scans; links = n }
-
-abbrev pub sizes_of : ℕ → Asked → Sizes
-sizes_of n z = sizes_in n (limits_asked z)
-
-abbrev pub no_sizes : ℕ → Sizes
-no_sizes n = record { slots = 0; places = 0; registers = 0; scans = 0; links = n }
-
--- a new store over the first records of the old area, which may be any
+-- an open one
 abbrev pub open_at : {X : Type 0} → Ghosts X → Sizes → Tables X → State
-open_at g z t = record { why = 0; sizes = z; store = new_store z (map (meaning_of g) (take z.slots t.slots.now)) }
+open_at g z t = state_over g 0 z t
 
 -- a closed one, with no sizes
 abbrev pub closed_state : {X : Type 0} → Ghosts X → ℕ → State
-closed_state g why = record { why = why; sizes = no_sizes g.count; store = new_store (no_sizes g.count) [] }
+closed_state g why = closed_at g.count why
 
 -- opening over lent tables
 abbrev pub opened : {X : Type 0} → Ghosts X → Asked → Tables X → State

@@ -6,7 +6,7 @@ use Rattle.rules.specs.Chains.{Chain, is_flush, weight_in, flushes, flush_weight
 use Rattle.kinds.specs.Faults.{store_refusal}
 use Rattle.kinds.specs.declared.fault.StoreFault.{StoreFault}
 use Rattle.heap.specs.declared.tally.Tally.{Tally}
-use Rattle.heap.specs.State.{State, is_open}
+use Rattle.registers.specs.State.{State, is_open}
 
 abbrev pub told_tally : Result Tally StoreFault → Answer
 told_tally (Ok t) = counts (t.flushes ∷ (t.weight ∷ []))

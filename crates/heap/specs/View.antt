@@ -7,9 +7,9 @@ use Rattle.ring.specs.declared.ring.Ring.{Ring}
 use Rattle.heap.specs.declared.counts.Counts.{Counts}
 use Rattle.heap.specs.declared.heap.Heap.{Heap}
 use Rattle.heap.specs.declared.rows.Forward.{Forward}
-use Rattle.heap.specs.Answers.{told_why}
+use Rattle.registers.specs.Answers.{told_why}
 use Rattle.heap.specs.Meaning.{meaning_of}
-use Rattle.heap.specs.State.{State}
+use Rattle.registers.specs.State.{State, sizes_in}
 
 -- the first n of a table, each by its meaning
 abbrev pub front : {X Y : Type 0} → (X → Y) → ℕ → List X → List Y
@@ -27,7 +27,7 @@ contents g h = record {
 }
 
 abbrev pub sizes_of_heap : {X B : Type 0} → Ghosts X → Heap X B → Sizes
-sizes_of_heap g h = record { slots = h.limits.slots; places = h.limits.places; registers = h.limits.registers; scans = h.limits.scans; links = g.count }
+sizes_of_heap g h = sizes_in g.count h.limits
 
 abbrev pub view : {X B : Type 0} → Ghosts X → Heap X B → State
 view g h = record { why = told_why h.status; sizes = sizes_of_heap g h; store = contents g h }

@@ -9,7 +9,7 @@ pub mod making;
 pub mod opening;
 pub mod places;
 pub mod record_calls;
-pub mod registers;
+pub mod register_calls;
 pub mod remember;
 pub mod shading;
 pub mod step;
@@ -24,16 +24,8 @@ use crate::rows::{Forward, Note};
 use kinds::barrier::Barrier;
 use kinds::fault::StoreFault;
 use kinds::kind::Kind;
+use registers::sizes::Limits;
 use ring::ring::Ring;
-
-// The sizes of an open store; all 0 where it is closed.
-#[derive(Clone, Copy)]
-pub struct Limits {
-    slots: u32,
-    places: u32,
-    registers: u32,
-    scans: u32,
-}
 
 // `used` nursery places hold records, `noted` note rows stand, and `copied` records were copied in the step under way.
 #[derive(Drop)]

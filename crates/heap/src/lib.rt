@@ -2,11 +2,11 @@
 // sound heap and leave one.
 #![tactic(auto)]
 
+pub use registers::{seen, sizes};
+
 pub mod counts;
 pub mod heap;
 pub mod records;
 pub mod rows;
-pub mod seen;
-pub mod sizes;
 pub mod stepped;
 pub mod tally;

@@ -1,5 +1,5 @@
 -- Digits that are read one by one, and what they write.
-use Rattle.std.proofs.Common.{◌≡◌, ℕ, ◌+◌, ◌-◌, ◌*◌, ◌^◌, ◌<◌, ◌≤◌, true, false, eqb, leb, ◌⊎◌, List, [], ◌∷◌, length, get_or, drop, Some, None, decimal, sym, refl, ap, ◌∙◌, inl, inr, ⊎_elim, arith}
+use Rattle.std.proofs.Common.{◌≡◌, ℕ, ◌+◌, ◌-◌, ◌*◌, ◌^◌, ◌<◌, ◌≤◌, true, false, eqb, leb, List, [], ◌∷◌, length, get_or, drop, Some, None, decimal, sym, refl, ap, ◌∙◌, ⊎_elim, arith}
 use native.Mathlib.Nat.{pow-le-pow_right}
 use Rattle.std.specs.Str.Parse.{AllDigits, digits_value, digits_value_after}
 use Rattle.std.specs.Int.{IsInRange}
@@ -8,18 +8,14 @@ use Rattle.std.proofs.lemmas.Fmt.{decimal_is_IsNumeral, decimal-digits_value, de
 use Rattle.std.proofs.lemmas.Int.Digits.{digits_value-lt}
 use Rattle.std.proofs.lemmas.List.{at_drop_more}
 use Rattle.std.proofs.lemmas.Str.Parse.{IsNumeralModel, tells_digits, numerals_by_value}
-use Rattle.std.proofs.lemmas.Bool.{leb-true, le-leb, lt-leb, and_parts, and_from, and_left, and_right, eqb-false, ne_eqb, cond-true, cond-false, lt-ltb, le-ltb, cases_lt, cases_Bool}
+use Rattle.std.proofs.lemmas.Bool.{leb-true, le-leb, and_parts, and_from, eqb-false, ne_eqb, cond-true, cond-false, lt-ltb, le-ltb, cases_lt, cases_Bool}
 use Rattle.lines.specs.Columns.{is_digit, digits_after, natural}
 
-pub digit_yes : (b : ℕ) → 48 ≤ b → b ≤ 57 → is_digit b ≡ true
+digit_yes : (b : ℕ) → 48 ≤ b → b ≤ 57 → is_digit b ≡ true
 digit_yes b low high = and_from (leb 48 b) (leb b 57) (le-leb 48 b low) (le-leb b 57 high)
 
-pub digit_no : (b : ℕ) → (b < 48) ⊎ (57 < b) → is_digit b ≡ false
-digit_no b (inl low) = and_left (leb 48 b) (leb b 57) (lt-leb 48 b low)
-digit_no b (inr high) = and_right (leb 48 b) (leb b 57) (lt-leb b 57 high)
-
-digit_in : (b : ℕ) → is_digit b ≡ true → IsInRange 48 57 b
-digit_in b e = let p = and_parts (leb 48 b) (leb b 57) e in (leb-true 48 b p.0, leb-true b 57 p.1)
+pub digit_range : (b : ℕ) → is_digit b ≡ true → IsInRange 48 57 b
+digit_range b e = let p = and_parts (leb 48 b) (leb b 57) e in (leb-true 48 b p.0, leb-true b 57 p.1)
 
 -- the next digit, and a byte that is none
 pub digits_more : (n : ℕ) (ds : List ℕ) (i : ℕ) → i < length ds → is_digit (get_or ds i 0) ≡ true → digits_after n (drop i ds) ≡ digits_after (n * 10 + (get_or ds i 0 - 48)) (drop (i + 1) ds)
@@ -45,7 +41,7 @@ to_digits : (n : ℕ) (ds : List ℕ) (v : ℕ) → digits_after n ds ≡ Some v
 to_digits n [] v e = (tt, cc)
 to_digits n (b ∷ bs) v e = ⊎_elim
     (λ yes'.
-    let in' = digit_in b yes' in
+    let in' = digit_range b yes' in
     let r = to_digits (n * 10 + (b - 48)) bs v (sym (cond-true _ _ _ yes') ∙ e) in
     (tells_digits.more b bs in' r.0, r.1 ∙ ap (λ x. digits_value_after 10 (n * 10 + x) bs) (sym (digit_back b in'))))
     (λ no'. let clash : None ≡ Some v = sym (cond-false _ _ _ no') ∙ e in let z : ◌≡◌ {A = ℕ} 0 1 = cc in absurd (omega arith))

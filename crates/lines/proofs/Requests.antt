@@ -4,40 +4,39 @@ use Rattle.std.specs.Option.{ok_or}
 use Rattle.std.specs.Result.{result_ok}
 use Rattle.std.specs.List.{between}
 use Rattle.std.proofs.lemmas.Bool.{cond-true, cond-false}
-use Rattle.lines.specs.declared.command.Command.{Command}
 use Rattle.lines.specs.declared.request.FormatFault.{FormatFault}
 use Rattle.lines.specs.declared.request.FormatFault.TheVariants.{NotALine, UnknownCommand}
 use Rattle.lines.specs.Columns.{column}
-use Rattle.lines.specs.Commands.{command_named, field_count}
+use Rattle.lines.specs.CommandSets.{Commands, command_named}
 use Rattle.lines.specs.Lines.{good_line}
 use Rattle.lines.specs.Requests.{field_read, with_fields, with_command, parsed}
 
 -- a line that is not good, and a good one
-pub parsed_bad : (line : List ℕ) → good_line line ≡ false → parsed line ≡ Err NotALine
+pub parsed_bad : {C : Type 0} (set : Commands C) (line : List ℕ) → good_line line ≡ false → parsed set line ≡ Err NotALine
 unfolding parsed
-parsed_bad line bad = cond-false _ _ _ bad
+parsed_bad set line bad = cond-false _ _ _ bad
 
-pub parsed_good : (line : List ℕ) (o : Option Command) → good_line line ≡ true → command_named (take 6 line) ≡ o → parsed line ≡ with_command o line
+pub parsed_good : {C : Type 0} (set : Commands C) (line : List ℕ) (o : Option C) → good_line line ≡ true → command_named set (take 6 line) ≡ o → parsed set line ≡ with_command set o line
 unfolding parsed
-parsed_good line o good named = cond-true _ _ _ good ∙ ap (λ o. with_command o line) named
+parsed_good set line o good named = cond-true _ _ _ good ∙ ap (λ o. with_command set o line) named
 
 -- a good line with a command: the three fields in order
-module _ (line : List ℕ) (command : Command) (used : ℕ) (good : good_line line ≡ true) (named : command_named (take 6 line) ≡ Some command) (count : used ≡ field_count command) where
-  fields : parsed line ≡ with_fields command (field_read used 1 (column (between 6 16 line))) (field_read used 2 (column (between 16 26 line))) (field_read used 3 (column (between 26 36 line)))
-  fields = parsed_good line (Some command) good named ∙ ap (λ n. with_fields command (field_read n 1 (column (between 6 16 line))) (field_read n 2 (column (between 16 26 line))) (field_read n 3 (column (between 26 36 line)))) (sym count)
+module _ {C : Type 0} (set : Commands C) (line : List ℕ) (command : C) (used : ℕ) (good : good_line line ≡ true) (named : command_named set (take 6 line) ≡ Some command) (count : used ≡ set.field_count command) where
+  fields : parsed set line ≡ with_fields command (field_read used 1 (column (between 6 16 line))) (field_read used 2 (column (between 16 26 line))) (field_read used 3 (column (between 26 36 line)))
+  fields = parsed_good set line (Some command) good named ∙ ap (λ n. with_fields command (field_read n 1 (column (between 6 16 line))) (field_read n 2 (column (between 16 26 line))) (field_read n 3 (column (between 26 36 line)))) (sym count)
 
-  pub first_bad : (fault : FormatFault) → field_read used 1 (column (between 6 16 line)) ≡ Err fault → parsed line ≡ Err fault
+  pub first_bad : (fault : FormatFault) → field_read used 1 (column (between 6 16 line)) ≡ Err fault → parsed set line ≡ Err fault
   first_bad fault e = fields ∙ ap (λ r. with_fields command r (field_read used 2 (column (between 16 26 line))) (field_read used 3 (column (between 26 36 line)))) e
 
-  pub second_bad : (x : ℤ) (fault : FormatFault) → field_read used 1 (column (between 6 16 line)) ≡ Ok x → field_read used 2 (column (between 16 26 line)) ≡ Err fault → parsed line ≡ Err fault
+  pub second_bad : (x : ℤ) (fault : FormatFault) → field_read used 1 (column (between 6 16 line)) ≡ Ok x → field_read used 2 (column (between 16 26 line)) ≡ Err fault → parsed set line ≡ Err fault
   second_bad x fault p e = fields ∙ ap (λ r. with_fields command r (field_read used 2 (column (between 16 26 line))) (field_read used 3 (column (between 26 36 line)))) p ∙ ap (λ r. with_fields command (Ok x) r (field_read used 3 (column (between 26 36 line)))) e
 
-  pub two_good : (x y : ℤ) → field_read used 1 (column (between 6 16 line)) ≡ Ok x → field_read used 2 (column (between 16 26 line)) ≡ Ok y → (r : Result ℤ FormatFault) → field_read used 3 (column (between 26 36 line)) ≡ r → parsed line ≡ with_fields command (Ok x) (Ok y) r
+  pub two_good : (x y : ℤ) → field_read used 1 (column (between 6 16 line)) ≡ Ok x → field_read used 2 (column (between 16 26 line)) ≡ Ok y → (r : Result ℤ FormatFault) → field_read used 3 (column (between 26 36 line)) ≡ r → parsed set line ≡ with_fields command (Ok x) (Ok y) r
   two_good x y p q r e = fields ∙ ap (λ r. with_fields command r (field_read used 2 (column (between 16 26 line))) (field_read used 3 (column (between 26 36 line)))) p ∙ ap (λ r. with_fields command (Ok x) r (field_read used 3 (column (between 26 36 line)))) q ∙ ap (with_fields command (Ok x) (Ok y)) e
 
 -- an unknown command by `ok_or`
-pub unknown : (o : Option Command) (r : Result Command FormatFault) (fault : FormatFault) → o ≡ result_ok r → r ≡ ok_or o UnknownCommand → r ≡ Err fault → (o ≡ None) × (fault ≡ UnknownCommand)
-unknown o r fault back value was =
+pub unknown : {C : Type 0} (o : Option C) (r : Result C FormatFault) (fault : FormatFault) → o ≡ result_ok r → r ≡ ok_or o UnknownCommand → r ≡ Err fault → (o ≡ None) × (fault ≡ UnknownCommand)
+unknown {C} o r fault back value was =
     let none : o ≡ None = back ∙ ap result_ok was in
-    let k : ◌≡◌ {A = Result Command FormatFault} (Err fault) (Err UnknownCommand) = sym was ∙ value ∙ ap (λ o. ok_or o UnknownCommand) none in
+    let k : ◌≡◌ {A = Result C FormatFault} (Err fault) (Err UnknownCommand) = sym was ∙ value ∙ ap (λ o. ok_or o UnknownCommand) none in
     (none, cc)

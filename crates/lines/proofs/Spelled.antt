@@ -4,19 +4,20 @@ use Rattle.std.specs.Str.Parse.{AllDigits}
 use Rattle.std.specs.Fmt.{signed_decimal}
 use Rattle.std.specs.List.{between}
 use Rattle.std.specs.Str.{bytes_eq}
+use Rattle.std.specs.Option.{option_map}
 use Rattle.std.proofs.lemmas.Fmt.{decimal_is_IsNumeral}
 use Rattle.std.proofs.lemmas.Slice.Eq.{bytes_eq-Decides}
 use Rattle.std.proofs.lemmas.List.{length-append, take_at, drop_at, drop-drop, take-append-drop, take_all, length-drop}
+use Rattle.std.proofs.lemmas.List.Folds.{list_all-append}
 use Rattle.std.proofs.lemmas.Str.Parse.{tells_digits}
 use Rattle.std.proofs.lemmas.Bool.{cases_Bool, cond-false, and_from, and_parts, le-leb, leb-true, eqb-true, eq-eqb}
 use Rattle.lines.specs.declared.column.Column.{Column}
 use Rattle.lines.specs.declared.column.Column.TheVariants.{Blank, Number, NoNumber}
-use Rattle.lines.specs.declared.command.Command.{Command}
 use Rattle.lines.specs.declared.request.FormatFault.{FormatFault}
 use Rattle.lines.specs.declared.request.FormatFault.TheVariants.{NotALine, UnknownCommand}
 use Rattle.lines.specs.declared.request.Request.{Request}
 use Rattle.lines.specs.Columns.{column, fits_column, row_of}
-use Rattle.lines.specs.Commands.{command_table, command_in, command_named, field_count}
+use Rattle.lines.specs.CommandSets.{Commands, command_in, command_named, is_text, are_texts}
 use Rattle.lines.specs.Lines.{printable, good_line}
 use Rattle.lines.specs.Requests.{used_field, unused_field, field_read, with_fields, parsed, FieldHolds, Spells, TakenAsSpelled}
 use Rattle.lines.proofs.Columns.{column_laws, length_row}
@@ -24,10 +25,7 @@ use Rattle.lines.proofs.Requests.{parsed_bad, parsed_good, two_good}
 
 -- ---- printable bytes
 printable_append : (xs ys : List ℕ) → printable xs ≡ true → printable ys ≡ true → printable (xs ++ ys) ≡ true
-printable_append [] ys p q = q
-printable_append (x ∷ xs) ys p q =
-    let t = and_parts (leb 32 x && leb x 126) (printable xs) p in
-    and_from (leb 32 x && leb x 126) (printable (xs ++ ys)) t.0 (printable_append xs ys t.1 q)
+printable_append xs ys p q = list_all-append (λ b. leb 32 b && leb b 126) xs ys ∙ and_from (printable xs) (printable ys) p q
 
 printable_blanks : (n : ℕ) → printable (replicate n 32) ≡ true
 printable_blanks zero = refl
@@ -50,26 +48,19 @@ unfolding row_of
 printable_row v fits = printable_append (replicate (10 - length (signed_decimal v)) 32) (signed_decimal v) (printable_blanks (10 - length (signed_decimal v))) (printable_signed v fits)
 
 -- ---- the texts of commands: each has six printable bytes
-abbrev is_text : List ℕ → Bool
-is_text text = eqb (length text) 6 && printable text
-
-abbrev are_texts : List (List ℕ × Command) → Bool
-are_texts [] = true
-are_texts (row ∷ rows) = is_text row.0 && are_texts rows
-
-text_in : (rows : List (List ℕ × Command)) (name : List ℕ) (command : Command) → are_texts rows ≡ true → command_in rows name ≡ Some command → is_text name ≡ true
+text_in : {C : Type 0} (rows : List (List ℕ × C)) (name : List ℕ) (command : C) → are_texts rows ≡ true → command_in rows name ≡ Some command → is_text name ≡ true
 text_in [] name command all e = let z : ◌≡◌ {A = ℕ} 0 1 = cc in absurd (omega arith)
 text_in (row ∷ rows) name command all e =
     let t = and_parts (is_text row.0) (are_texts rows) all in
     ⊎_elim
     (λ yes'. ap is_text ((bytes_eq-Decides name row.0).0 yes') ∙ t.0)
-    (λ no'. text_in rows name command t.1 (sym (cond-false _ _ _ no') ∙ e))
+    (λ no'. text_in rows name command t.1 (ap (option_map (λ row. row.1)) (sym (cond-false _ _ _ no')) ∙ e))
     (cases_Bool (bytes_eq name row.0))
 
-command_text : (name : List ℕ) (command : Command) → command_named name ≡ Some command → (length name ≡ 6) × (printable name ≡ true)
+command_text : {C : Type 0} (set : Commands C) (name : List ℕ) (command : C) → are_texts set.table ≡ true → command_named set name ≡ Some command → (length name ≡ 6) × (printable name ≡ true)
 unfolding command_named
-command_text name command e =
-    let t = and_parts (eqb (length name) 6) (printable name) (text_in command_table name command refl e) in
+command_text set name command all e =
+    let t = and_parts (eqb (length name) 6) (printable name) (text_in set.table name command all e) in
     (eqb-true (length name) 6 t.0, t.1)
 
 -- ---- one field
@@ -117,26 +108,26 @@ line_parts line long =
     sym (ap (λ l. take 6 line ++ (between 6 16 line ++ (between 16 26 line ++ l))) last ∙ ap (λ l. take 6 line ++ (between 6 16 line ++ l)) second ∙ ap (λ l. take 6 line ++ l) first ∙ take-append-drop 6 line)
 
 -- ---- what is taken is spelled
-fields_taken : (command : Command) (r s t : Result ℤ FormatFault) (q : Request) → with_fields command r s t ≡ Ok q → (command ≡ q.command) × (r ≡ Ok q.a) × (s ≡ Ok q.b) × (t ≡ Ok q.c)
+fields_taken : {C : Type 0} (command : C) (r s t : Result ℤ FormatFault) (q : Request C) → with_fields command r s t ≡ Ok q → (command ≡ q.command) × (r ≡ Ok q.a) × (s ≡ Ok q.b) × (t ≡ Ok q.c)
 fields_taken command (Err f) s t q e = let z : ◌≡◌ {A = ℕ} 0 1 = cc in absurd (omega arith)
 fields_taken command (Ok x) (Err f) t q e = let z : ◌≡◌ {A = ℕ} 0 1 = cc in absurd (omega arith)
 fields_taken command (Ok x) (Ok y) (Err f) q e = let z : ◌≡◌ {A = ℕ} 0 1 = cc in absurd (omega arith)
-fields_taken command (Ok x) (Ok y) (Ok z) q e =
+fields_taken {C} command (Ok x) (Ok y) (Ok z) q e =
     let is : record { command = command; a = x; b = y; c = z } ≡ q = cc in
-    (ap (λ (q : Request). q.command) is, ap (λ (q : Request). Ok q.a) is, ap (λ (q : Request). Ok q.b) is, ap (λ (q : Request). Ok q.c) is)
+    (ap (λ (q : Request C). q.command) is, ap (λ (q : Request C). Ok q.a) is, ap (λ (q : Request C). Ok q.b) is, ap (λ (q : Request C). Ok q.c) is)
 
-taken_spelled : (line : List ℕ) (q : Request) → parsed line ≡ Ok q → Spells q line
-taken_spelled line q e = ⊎_elim
-    (λ good. known good (command_named (take 6 line)) refl)
-    (λ bad. let clash : ◌≡◌ {A = Result Request FormatFault} (Err NotALine) (Ok q) = sym (parsed_bad line bad) ∙ e in let z : ◌≡◌ {A = ℕ} 0 1 = cc in absurd (omega arith))
+taken_spelled : {C : Type 0} (set : Commands C) (line : List ℕ) (q : Request C) → parsed set line ≡ Ok q → Spells set q line
+taken_spelled {C} set line q e = ⊎_elim
+    (λ good. known good (command_named set (take 6 line)) refl)
+    (λ bad. let clash : ◌≡◌ {A = Result (Request C) FormatFault} (Err NotALine) (Ok q) = sym (parsed_bad set line bad) ∙ e in let z : ◌≡◌ {A = ℕ} 0 1 = cc in absurd (omega arith))
     (cases_Bool (good_line line))
   where
-    known : good_line line ≡ true → (o : Option Command) → command_named (take 6 line) ≡ o → Spells q line
-    known good None is = let clash : ◌≡◌ {A = Result Request FormatFault} (Err UnknownCommand) (Ok q) = sym (parsed_good line None good is) ∙ e in let z : ◌≡◌ {A = ℕ} 0 1 = cc in absurd (omega arith)
+    known : good_line line ≡ true → (o : Option C) → command_named set (take 6 line) ≡ o → Spells set q line
+    known good None is = let clash : ◌≡◌ {A = Result (Request C) FormatFault} (Err UnknownCommand) (Ok q) = sym (parsed_good set line None good is) ∙ e in let z : ◌≡◌ {A = ℕ} 0 1 = cc in absurd (omega arith)
     known good (Some command) is =
-        let n : ℕ = field_count command in
-        let p = fields_taken command _ _ _ q (sym (parsed_good line (Some command) good is) ∙ e) in
-        let same : n ≡ field_count q.command = ap field_count p.0 in
+        let n : ℕ = set.field_count command in
+        let p = fields_taken command _ _ _ q (sym (parsed_good set line (Some command) good is) ∙ e) in
+        let same : n ≡ set.field_count q.command = ap set.field_count p.0 in
         let long : length line ≡ 36 = eqb-true (length line) 36 (and_parts (eqb (length line) 36) (printable line) good).0 in
         record {
           text = take 6 line;
@@ -151,10 +142,10 @@ taken_spelled line q e = ⊎_elim
         }
 
 -- ---- what is spelled is taken
-spelled_taken : (line : List ℕ) (q : Request) → Spells q line → parsed line ≡ Ok q
-spelled_taken line q w =
-    let n : ℕ = field_count q.command in
-    let t = command_text w.text q.command w.named in
+spelled_taken : {C : Type 0} (set : Commands C) → are_texts set.table ≡ true → (line : List ℕ) (q : Request C) → Spells set q line → parsed set line ≡ Ok q
+spelled_taken set all line q w =
+    let n : ℕ = set.field_count q.command in
+    let t = command_text set w.text q.command all w.named in
     let f = field_ten n 1 q.a w.first w.a in
     let g = field_ten n 2 q.b w.second w.b in
     let h = field_ten n 3 q.c w.third w.c in
@@ -168,11 +159,11 @@ spelled_taken line q w =
     let third : between 26 36 line ≡ w.third = part_at ((w.text ++ w.first) ++ w.second) w.third [] line 26 36 after_g l₃ h.0 in
     let size : length line ≡ 36 = ap length after_f ∙ length-append (w.text ++ w.first) (w.second ++ w.third) ∙ omega (arith, l₂, length-append w.second w.third, g.0, h.0) in
     let bytes : printable line ≡ true = ap printable w.whole ∙ printable_append w.text (w.first ++ (w.second ++ w.third)) t.1 (printable_append w.first (w.second ++ w.third) f.1 (printable_append w.second w.third g.1 h.1)) in
-    two_good line q.command n (and_from (eqb (length line) 36) (printable line) (eq-eqb (length line) 36 size) bytes) (ap command_named front ∙ w.named) refl q.a q.b
+    two_good set line q.command n (and_from (eqb (length line) 36) (printable line) (eq-eqb (length line) 36 size) bytes) (ap (command_named set) front ∙ w.named) refl q.a q.b
     (ap (λ l. field_read n 1 (column l)) first ∙ field_reads n 1 q.a w.first w.a)
     (ap (λ l. field_read n 2 (column l)) second ∙ field_reads n 2 q.b w.second w.b)
     (Ok q.c)
     (ap (λ l. field_read n 3 (column l)) third ∙ field_reads n 3 q.c w.third w.c)
 
-pub taken_as_spelled : TakenAsSpelled
-taken_as_spelled line q = (taken_spelled line q, spelled_taken line q)
+pub taken_as_spelled : {C : Type 0} (set : Commands C) → are_texts set.table ≡ true → TakenAsSpelled set
+taken_as_spelled set all line q = (taken_spelled set line q, spelled_taken set all line q)

@@ -1,8 +1,8 @@
 -- The commands of a sheet: their texts and how many fields each uses.
-use Rattle.std.specs.Prelude.{ℕ, cond, List, [], ◌∷◌, Some, None, codes, Option}
-use Rattle.std.specs.Str.{bytes_eq}
+use Rattle.std.specs.Prelude.{ℕ, List, [], ◌∷◌, codes}
 use Rattle.lines.specs.declared.command.Command.{Command}
 use Rattle.lines.specs.declared.command.Command.TheVariants.{OpenSnapshot, OpenUpdate, Load, Empty, Copy, Make, Read, Write, Same, Look, Step, Full, Tell}
+use Rattle.lines.specs.CommandSets.{Commands}
 
 -- the text of each command in six columns
 abbrev pub command_table : List (List ℕ × Command)
@@ -22,15 +22,6 @@ command_table =
     ∷ (codes "tell  ", Tell)
     ∷ []
 
--- the command of the first row with this text
-abbrev pub command_in : List (List ℕ × Command) → List ℕ → Option Command
-command_in [] name = None
-command_in (row ∷ rows) name = cond (bytes_eq name row.0) (Some row.1) (command_in rows name)
-
--- the command with this text
-unfoldable pub command_named : List ℕ → Option Command
-command_named name = command_in command_table name
-
 -- how many of the three fields a command uses; they are the first ones
 abbrev pub field_count : Command → ℕ
 field_count OpenSnapshot = 3
@@ -46,3 +37,6 @@ field_count Look = 1
 field_count Step = 0
 field_count Full = 0
 field_count Tell = 0
+
+abbrev pub commands : Commands Command
+commands = record { table = command_table; field_count = field_count }

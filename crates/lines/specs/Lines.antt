@@ -1,6 +1,6 @@
 -- The lines of an input, and which lines are good.
-use Rattle.std.specs.Prelude.{◌≡◌, ℕ, ◌+◌, ◌<◌, min, Bool, true, cond, not, ◌&&◌, List, [], ◌∷◌, ◌++◌, length, drop, ◌==◌, nat_le}
-use Rattle.std.specs.List.{prefix_len, AllByRecursion}
+use Rattle.std.specs.Prelude.{◌≡◌, ℕ, ◌+◌, ◌<◌, min, Bool, cond, not, ◌&&◌, List, [], ◌∷◌, ◌++◌, length, drop, ◌==◌, nat_le}
+use Rattle.std.specs.List.{list_all, prefix_len, AllByRecursion}
 
 -- a byte in front of the first line
 abbrev pub onto_first : ℕ → List (List ℕ) → List (List ℕ)
@@ -31,8 +31,7 @@ pub record LineLaws : Type 0 where
 
 -- bytes 32 to 126
 abbrev pub printable : List ℕ → Bool
-printable [] = true
-printable (b ∷ bs) = (nat_le 32 b && nat_le b 126) && printable bs
+printable bs = list_all (λ b. nat_le 32 b && nat_le b 126) bs
 
 -- a good line has 36 bytes, each 32 to 126
 abbrev pub good_line : List ℕ → Bool

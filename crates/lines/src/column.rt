@@ -15,12 +15,7 @@ fn leading_blanks(row: &[u8]) -> usize
     ensures value { result ≡ blanks row.now }
     ensures within { result ≤ length row.now }
 {
-    for (i, b) in row.iter().enumerate() {
-        if *b != b' ' {
-            return i;
-        }
-    }
-    row.len()
+    row.iter().position(|b| *b != b' ').unwrap_or(row.len())
 }
 
 // The number that these bytes write if each is a digit; no bytes write 0.
@@ -31,7 +26,7 @@ fn digits_value(digits: &[u8]) -> Option<u64>
 {
     let mut n: u64 = 0;
     for d in digits {
-        if *d < b'0' || *d > b'9' {
+        if !d.is_ascii_digit() {
             return None;
         }
         n = n * 10 + u64::from(*d - b'0');
@@ -57,10 +52,7 @@ fn positive_column(digits: &[u8]) -> Column
     requires { length digits.now ≤ 10 }
     ensures { result ≡ positive (natural digits.now) }
 {
-    match parse_natural(digits) {
-        Some(n) => Column::Number(n as i64),
-        None => Column::NoNumber,
-    }
+    parse_natural(digits).map_or(Column::NoNumber, |n| Column::Number(n as i64))
 }
 
 // A column with a minus and these digits; −0 is no number.
@@ -104,22 +96,21 @@ fn write_digits(row: &mut [u8], n: u64) -> usize
     ensures after { row.new ≡ take (length row.old - length (decimal n)) row.old ++ decimal n }
 {
     let mut rest = n;
-    let mut at = row.len();
-    while rest >= 10 {
-        at -= 1;
+    for at in (0..row.len()).rev() {
         row[at] = b'0' + (rest % 10) as u8;
         rest /= 10;
+        if rest == 0 {
+            return at;
+        }
     }
-    at -= 1;
-    row[at] = b'0' + rest as u8;
-    at
+    0
 }
 
 // Whether a number lies between −999,999,999 and 9,999,999,999.
 fn is_in_range(v: i64) -> bool
     ensures { result ≡ fits_column v }
 {
-    v >= -999_999_999 && v <= 9_999_999_999
+    (-999_999_999..=9_999_999_999).contains(&v)
 }
 
 // The row of a number, if it lies between −999,999,999 and 9,999,999,999.

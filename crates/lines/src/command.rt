@@ -1,6 +1,8 @@
 // The commands of a sheet.
-ghost use Rattle.std.specs.Prelude.{◌≡◌};
-ghost use Rattle.lines.specs.Commands.{command_table, command_in, field_count};
+ghost use Rattle.std.specs.Prelude.{refl};
+ghost use Rattle.lines.specs.Commands.{commands};
+
+use crate::command_set::{CommandSet, command_in};
 
 #[derive(Clone, Copy, PartialEq, Eq, Debug)]
 pub enum Command {
@@ -36,30 +38,14 @@ const COMMANDS: [([u8; 6], Command); 13] = [
     (*b"tell  ", Command::Tell),
 ];
 
-// The command of the first row with this text.
-fn command_in(rows: &[([u8; 6], Command)], name: &[u8]) -> Option<Command>
-    ensures { result ≡ command_in rows.now name.now }
-{
-    for (text, command) in rows {
-        if name == text.as_slice() {
-            return Some(*command);
-        }
-    }
-    None
-}
+impl CommandSet for Command {
+    ghost commands = { commands };
 
-impl Command {
-    // The command with this text, which fills six columns.
-    pub fn parse(name: &[u8]) -> Option<Command>
-        ensures { result ≡ command_in command_table name.now }
-    {
+    fn parse(name: &[u8]) -> Option<Command> {
         command_in(&COMMANDS, name)
     }
 
-    // How many of the three fields the command uses; they are the first ones.
-    pub fn field_count(self) -> usize
-        ensures { result ≡ field_count self }
-    {
+    fn field_count(self) -> usize {
         match self {
             Command::OpenSnapshot | Command::OpenUpdate => 3,
             Command::Make | Command::Read | Command::Write => 3,
@@ -68,4 +54,6 @@ impl Command {
             Command::Step | Command::Full | Command::Tell => 0,
         }
     }
+
+    ghost texts = { refl };
 }

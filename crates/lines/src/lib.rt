@@ -4,6 +4,7 @@
 pub mod answer;
 pub mod column;
 pub mod command;
+pub mod command_set;
 pub mod line;
 pub mod request;
 #[cfg(test)]

@@ -1,6 +1,18 @@
 // Where lines end, and which lines are good.
-ghost use Rattle.std.specs.Prelude.{◌≡◌, ◌≤◌, length};
+ghost use Rattle.std.specs.Prelude.{◌≡◌, ◌≤◌, length, ◌==◌};
+ghost use Rattle.std.specs.List.{position_or_len};
 ghost use Rattle.lines.specs.Lines.{line_end, good_line, printable, LineLaws};
+
+// How many bytes stand before the first newline, or at all where there is none.
+fn line_len(input: &[u8]) -> usize
+    ensures value { result ≡ position_or_len (λ b. b == 10) input.now }
+    ensures within { result ≤ length input.now }
+{
+    input
+        .iter()
+        .position(|b| *b == b'\n')
+        .unwrap_or(input.len())
+}
 
 // The index of the first newline at or after `from`, else the length of the input.
 pub fn line_end(input: &[u8], from: usize) -> usize
@@ -9,24 +21,15 @@ pub fn line_end(input: &[u8], from: usize) -> usize
     ensures onward { from ≤ length input.now → from ≤ result }
     ensures laws { LineLaws }
 {
-    for i in from..input.len() {
-        if input[i] == b'\n' {
-            return i;
-        }
-    }
-    input.len()
+    let start = from.min(input.len());
+    start + line_len(&input[start..])
 }
 
 // Whether each byte is one of 32 to 126.
 fn is_printable(bytes: &[u8]) -> bool
     ensures { result ≡ printable bytes.now }
 {
-    for b in bytes {
-        if *b < b' ' || *b > b'~' {
-            return false;
-        }
-    }
-    true
+    bytes.iter().all(|b| (b' '..=b'~').contains(b))
 }
 
 // Whether a line has 36 bytes, each one of 32 to 126.

@@ -4,7 +4,7 @@ ghost use Rattle.lines.specs.Columns.{column};
 ghost use Rattle.lines.specs.Requests.{format_refusal, format_column, field_read, parsed, TakenAsSpelled};
 
 use crate::column::{Column, read_column};
-use crate::command::Command;
+use crate::command_set::CommandSet;
 use crate::line::is_good_line;
 
 // Why a line is refused.
@@ -43,8 +43,8 @@ impl FormatFault {
 
 // A command with its fields; a field that it does not use is 0.
 #[derive(Clone, Copy, PartialEq, Eq, Debug)]
-pub struct Request {
-    pub command: Command,
+pub struct Request<C> {
+    pub command: C,
     pub a: i64,
     pub b: i64,
     pub c: i64,
@@ -62,14 +62,14 @@ fn read_field(row: &[u8], used: usize, k: u8) -> Result<i64, FormatFault>
 }
 
 // The request of a line, or the first fault of the line.
-pub fn parse_line(line: &[u8]) -> Result<Request, FormatFault>
-    ensures value { result ≡ parsed line.now }
-    ensures spelled { TakenAsSpelled }
+pub fn parse_line<C: CommandSet>(line: &[u8]) -> Result<Request<C>, FormatFault>
+    ensures value { result ≡ parsed C.commands line.now }
+    ensures spelled { TakenAsSpelled C.commands }
 {
     if !is_good_line(line) {
         return Err(FormatFault::NotALine);
     }
-    let command = Command::parse(&line[..6]).ok_or(FormatFault::UnknownCommand)?;
+    let command = C::parse(&line[..6]).ok_or(FormatFault::UnknownCommand)?;
     let used = command.field_count();
     let a = read_field(&line[6..16], used, 1)?;
     let b = read_field(&line[16..26], used, 2)?;

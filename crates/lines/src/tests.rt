@@ -64,29 +64,29 @@ fn requests(rt: HostRuntime) {
 #[test]
 fn refused_lines(rt: HostRuntime) {
     let long = [b' '; 10_000];
-    assert_eq!(rt; parse_line(&long), Err(FormatFault::NotALine));
+    assert_eq!(rt; parse_line::<Command>(&long), Err(FormatFault::NotALine));
     assert_eq!(rt;
-        parse_line(b"look           0                   "),
+        parse_line::<Command>(b"look           0                   "),
         Err(FormatFault::NotALine)
     );
     assert_eq!(rt;
-        parse_line(b"look           0                   \x7f"),
+        parse_line::<Command>(b"look           0                   \x7f"),
         Err(FormatFault::NotALine)
     );
     assert_eq!(rt;
-        parse_line(b"Look           0                    "),
+        parse_line::<Command>(b"Look           0                    "),
         Err(FormatFault::UnknownCommand)
     );
     assert_eq!(rt;
-        parse_line(b"look                                "),
+        parse_line::<Command>(b"look                                "),
         Err(FormatFault::BadField(1))
     );
     assert_eq!(rt;
-        parse_line(b"copy           0        01         1"),
+        parse_line::<Command>(b"copy           0        01         1"),
         Err(FormatFault::BadField(2))
     );
     assert_eq!(rt;
-        parse_line(b"same           0         1         1"),
+        parse_line::<Command>(b"same           0         1         1"),
         Err(FormatFault::BadField(3))
     );
 }

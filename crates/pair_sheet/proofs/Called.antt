@@ -6,7 +6,7 @@ use Rattle.rules.specs.Rules.{Barrier, Call, write, refused}
 use Rattle.kinds.specs.Faults.{store_refusal}
 use Rattle.kinds.specs.declared.fault.StoreFault.{StoreFault}
 use Rattle.kinds.specs.declared.fault.StoreFault.TheVariants.{SizeOutOfRange, TableShort, NoSuchRegister, Word, NoSuchLink, WrongLinkCount, BadDose, Closed, NoRecord, NurseryFull, NoRoom, NotesFull, EndlessChain}
-use Rattle.heap.specs.State.{State, after, answer}
+use Rattle.registers.specs.State.{State, after, answer}
 use Rattle.pair_sheet.specs.declared.fault.SheetFault.{SheetFault}
 use Rattle.pair_sheet.specs.declared.fault.SheetFault.TheVariants.{Store}
 use Rattle.pair_sheet.specs.Runs.{Called, row_of_result, fits_result}

@@ -4,10 +4,10 @@ use Rattle.std.proofs.lemmas.List.{take-replicate}
 use Rattle.std.proofs.lemmas.Bool.{cond-false}
 use Rattle.std.proofs.lemmas.Bool.Decides.{nat_tests}
 use Rattle.rules.specs.Rules.{new_store}
-use Rattle.heap.specs.declared.sizes.Sizes.{Sizes}
+use Rattle.registers.specs.declared.sizes.Sizes.{Sizes}
 use Rattle.heap.specs.Meaning.{meaning_of}
-use Rattle.heap.specs.Opening.{natural, sizes_in_range}
-use Rattle.heap.specs.State.{State, sizes_of}
+use Rattle.registers.specs.Opening.{natural, sizes_in_range}
+use Rattle.registers.specs.State.{State, sizes_of}
 use Rattle.pair_sheet.specs.Pairs.{pairs, register_count, place_count, slot_count, within_lent, why_pairs, empty_pair, closed_pairs, pairs_opened}
 
 -- what the store tests of the eight tables, one after the other

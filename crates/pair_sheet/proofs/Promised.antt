@@ -7,14 +7,15 @@ use Rattle.rules.specs.Rules.{Barrier, Lawful, Sizes, Call}
 use Rattle.rules.specs.History.{History, history_call, history_run, new_history}
 use Rattle.rules.specs.Promise.{InRange}
 use Rattle.rules.proofs.Statements.{nothing_in_use_is_taken_back}
-use Rattle.heap.specs.declared.sizes.Sizes.{Sizes as Asked}
-use Rattle.heap.specs.Opening.{from_one_to, natural, sizes_in_range}
-use Rattle.heap.specs.State.{sizes_of}
+use Rattle.registers.specs.declared.sizes.Sizes.{Sizes as Asked}
+use Rattle.registers.specs.Opening.{from_one_to, natural, sizes_in_range}
+use Rattle.registers.specs.State.{sizes_of}
 use Rattle.lines.specs.declared.command.Command.{Command}
 use Rattle.lines.specs.declared.command.Command.TheVariants.{OpenSnapshot, OpenUpdate, Load, Empty, Copy, Make, Read, Write, Same, Look, Step, Full, Tell}
 use Rattle.lines.specs.declared.request.FormatFault.{FormatFault}
 use Rattle.lines.specs.declared.request.Request.{Request}
 use Rattle.lines.specs.Answers.{row_bytes}
+use Rattle.lines.specs.Commands.{commands}
 use Rattle.lines.specs.Lines.{lines}
 use Rattle.pair_sheet.specs.Pairs.{empty_pair, within_lent, why_pairs, new_pairs, closed_pairs}
 use Rattle.lines.specs.Requests.{parsed}
@@ -116,35 +117,35 @@ reply_by_order (since b z calls) ready (calling c) = ap reply_of ((promised (sin
 
 -- and so for a line
 module _ (l : Log) (ready : Ready l) where
-  ready_after_request : (r : Result Request FormatFault) → Ready (log_after_request l r)
+  ready_after_request : (r : Result (Request Command) FormatFault) → Ready (log_after_request l r)
   ready_after_request (Ok q) = ready_after_order l (order_of q) (asks_lawful q.command q.a q.b q.c) ready
   ready_after_request (Err e) = ready
 
-  state_by_request : (r : Result Request FormatFault) → state_after_request (state_of l) r ≡ state_of (log_after_request l r)
+  state_by_request : (r : Result (Request Command) FormatFault) → state_after_request (state_of l) r ≡ state_of (log_after_request l r)
   state_by_request (Ok q) = state_by_order l (order_of q)
   state_by_request (Err e) = refl
 
-  reply_by_request : (r : Result Request FormatFault) → reply_to_request (state_of l) r ≡ book_reply_to_request l r
+  reply_by_request : (r : Result (Request Command) FormatFault) → reply_to_request (state_of l) r ≡ book_reply_to_request l r
   reply_by_request (Ok q) = reply_by_order l ready (order_of q)
   reply_by_request (Err e) = refl
 
 -- and for lines
 ready_after : (l : Log) → Ready l → (ls : List (List ℕ)) → Ready (log_after l ls)
 ready_after l ready [] = ready
-ready_after l ready (line ∷ rest) = ready_after (log_after_line l line) (ready_after_request l ready (parsed line)) rest
+ready_after l ready (line ∷ rest) = ready_after (log_after_line l line) (ready_after_request l ready (parsed commands line)) rest
 
 state_by_log : (l : Log) → Ready l → (ls : List (List ℕ)) → state_after (state_of l) ls ≡ state_of (log_after l ls)
 state_by_log l ready [] = refl
 state_by_log l ready (line ∷ rest) =
-    ap (λ s. state_after s rest) (state_by_request l ready (parsed line)) ∙ state_by_log (log_after_line l line) (ready_after_request l ready (parsed line)) rest
+    ap (λ s. state_after s rest) (state_by_request l ready (parsed commands line)) ∙ state_by_log (log_after_line l line) (ready_after_request l ready (parsed commands line)) rest
 
 written_by_log : (l : Log) → Ready l → (n : ℕ) (ls : List (List ℕ)) → written_for (state_of l) n ls ≡ written_by_book l n ls
 unfolding written_for written_by_book
 written_by_log l ready n [] = refl
 written_by_log l ready n (line ∷ rest) =
-    ap (λ r. row_bytes (row_of_reply n r) ++ written_for (state_after_line (state_of l) line) (next_line n) rest) (reply_by_request l ready (parsed line))
-    ∙ ap (λ s. row_bytes (row_of_reply n (book_reply_to_line l line)) ++ written_for s (next_line n) rest) (state_by_request l ready (parsed line))
-    ∙ ap (λ bs. row_bytes (row_of_reply n (book_reply_to_line l line)) ++ bs) (written_by_log (log_after_line l line) (ready_after_request l ready (parsed line)) (next_line n) rest)
+    ap (λ r. row_bytes (row_of_reply n r) ++ written_for (state_after_line (state_of l) line) (next_line n) rest) (reply_by_request l ready (parsed commands line))
+    ∙ ap (λ s. row_bytes (row_of_reply n (book_reply_to_line l line)) ++ written_for s (next_line n) rest) (state_by_request l ready (parsed commands line))
+    ∙ ap (λ bs. row_bytes (row_of_reply n (book_reply_to_line l line)) ++ bs) (written_by_log (log_after_line l line) (ready_after_request l ready (parsed commands line)) (next_line n) rest)
 
 pub sheet_promise : (input : List ℕ) → SheetPromise input
 sheet_promise input = record {

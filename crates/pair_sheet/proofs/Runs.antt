@@ -6,7 +6,7 @@ use Rattle.std.proofs.lemmas.Int.{to_z-of_z}
 use Rattle.std.proofs.lemmas.Bool.{cond-true, cond-false}
 use Rattle.std.proofs.lemmas.Bool.Decides.{nat_tests}
 use Rattle.rules.specs.Rules.{Barrier}
-use Rattle.heap.specs.State.{State}
+use Rattle.registers.specs.State.{State}
 use Rattle.lines.specs.declared.answer.RowFault.{RowFault}
 use Rattle.lines.specs.declared.answer.RowFault.TheVariants.{NoMemory}
 use Rattle.lines.specs.Answers.{row_bytes}

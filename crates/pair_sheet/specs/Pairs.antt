@@ -6,9 +6,9 @@ use Rattle.kinds.specs.declared.pair.Pair.{Pair}
 use Rattle.kinds.specs.declared.kind.Kind.{Ghosts}
 use Rattle.kinds.specs.contracts.pair.PairKind.TheImpl.{ghosts}
 use Rattle.heap.specs.declared.heap.Heap.{Heap}
-use Rattle.heap.specs.declared.sizes.Sizes.{Sizes}
-use Rattle.heap.specs.Opening.{natural, sizes_in_range}
-use Rattle.heap.specs.State.{State, sizes_of, no_sizes}
+use Rattle.registers.specs.declared.sizes.Sizes.{Sizes}
+use Rattle.registers.specs.Opening.{natural, sizes_in_range}
+use Rattle.registers.specs.State.{State, sizes_of, no_sizes}
 use Rattle.heap.specs.View.{view}
 
 -- what a heap of pairs holds

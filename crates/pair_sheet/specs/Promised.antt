@@ -4,10 +4,12 @@ use Rattle.rules.specs.Rules.{Record, Barrier, Sizes, Call, Answer, run_call}
 use Rattle.rules.specs.Book.{book_call}
 use Rattle.rules.specs.History.{History, history_run, new_history}
 use Rattle.rules.specs.Promise.{Promise}
-use Rattle.heap.specs.State.{sizes_of}
+use Rattle.registers.specs.State.{sizes_of}
+use Rattle.lines.specs.declared.command.Command.{Command}
 use Rattle.lines.specs.declared.request.FormatFault.{FormatFault}
 use Rattle.lines.specs.declared.request.Request.{Request}
 use Rattle.lines.specs.Answers.{row_bytes}
+use Rattle.lines.specs.Commands.{commands}
 use Rattle.lines.specs.Lines.{lines}
 use Rattle.pair_sheet.specs.Pairs.{empty_pair, why_pairs, pairs_opened}
 use Rattle.lines.specs.Requests.{format_refusal, format_column, parsed}
@@ -25,12 +27,12 @@ log_after_order (since b z calls) (opening b' z') = since b z calls
 log_after_order (since b z calls) (calling c) = since b z (calls ++ (c ∷ []))
 
 -- a line that is not in the format does nothing
-abbrev pub log_after_request : Log → Result Request FormatFault → Log
+abbrev pub log_after_request : Log → Result (Request Command) FormatFault → Log
 log_after_request l (Ok q) = log_after_order l (order_of q)
 log_after_request l (Err e) = l
 
 abbrev pub log_after_line : Log → List ℕ → Log
-log_after_line l line = log_after_request l (parsed line)
+log_after_line l line = log_after_request l (parsed commands line)
 
 -- the log of lines, and the sheet's state after lines
 abbrev pub log_after : Log → List (List ℕ) → Log
@@ -66,12 +68,12 @@ book_reply_to_order unopened (calling c) = declined 34 1 0
 book_reply_to_order (since b z calls) (opening b' z') = declined 34 1 0
 book_reply_to_order (since b z calls) (calling c) = reply_of (book_answer b z calls c)
 
-abbrev pub book_reply_to_request : Log → Result Request FormatFault → Reply
+abbrev pub book_reply_to_request : Log → Result (Request Command) FormatFault → Reply
 book_reply_to_request l (Ok q) = book_reply_to_order l (order_of q)
 book_reply_to_request l (Err e) = declined (format_refusal e) 1 (format_column e)
 
 abbrev pub book_reply_to_line : Log → List ℕ → Reply
-book_reply_to_line l line = book_reply_to_request l (parsed line)
+book_reply_to_line l line = book_reply_to_request l (parsed commands line)
 
 -- what is then written for lines, the first of which is line n
 unfoldable pub written_by_book : Log → ℕ → List (List ℕ) → List ℕ

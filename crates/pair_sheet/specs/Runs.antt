@@ -1,7 +1,7 @@
 -- Typed results of a line, as replies and as the five numbers of an answer.
 use Rattle.std.specs.Prelude.{◌≡◌, ℕ, Bool, true, List, [], ◌∷◌, ◌++◌, ℤ, pos, Ok, Err, Result}
 use Rattle.rules.specs.Rules.{Barrier, Call, snapshot, update}
-use Rattle.heap.specs.State.{State, after, answer}
+use Rattle.registers.specs.State.{State, after, answer}
 use Rattle.pair_sheet.specs.declared.fault.SheetFault.{SheetFault}
 use Rattle.pair_sheet.specs.declared.run.Opening.{Opening}
 use Rattle.pair_sheet.specs.declared.run.Opening.TheVariants.{WithSnapshot, WithUpdate}

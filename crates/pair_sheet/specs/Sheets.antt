@@ -1,13 +1,14 @@
 -- A whole sheet: what each line does and what is written for it.
 use Rattle.std.specs.Prelude.{ℕ, ◌+◌, min, cond, List, [], ◌∷◌, ◌++◌, take, replicate, ℤ, pos, Ok, Err, Result, ◌==◌}
 use Rattle.rules.specs.Rules.{Barrier, Call, load, empty, copy, make, read, write, same, look, step, full, tell, Answer, refused, done, gave, snapshot, update}
-use Rattle.heap.specs.declared.sizes.Sizes.{Sizes}
-use Rattle.heap.specs.State.{State, after, answer}
+use Rattle.registers.specs.declared.sizes.Sizes.{Sizes}
+use Rattle.registers.specs.State.{State, after, answer}
 use Rattle.lines.specs.declared.command.Command.{Command}
 use Rattle.lines.specs.declared.command.Command.TheVariants.{OpenSnapshot, OpenUpdate, Load, Empty, Copy, Make, Read, Write, Same, Look, Step, Full, Tell}
 use Rattle.lines.specs.declared.request.FormatFault.{FormatFault}
 use Rattle.lines.specs.declared.request.Request.{Request}
 use Rattle.lines.specs.Answers.{row_bytes}
+use Rattle.lines.specs.Commands.{commands}
 use Rattle.lines.specs.Lines.{lines}
 use Rattle.pair_sheet.specs.Pairs.{register_count, pairs_opened}
 use Rattle.lines.specs.Requests.{format_refusal, format_column, parsed}
@@ -47,7 +48,7 @@ order Step a b c = calling step
 order Full a b c = calling full
 order Tell a b c = calling tell
 
-abbrev pub order_of : Request → Order
+abbrev pub order_of : Request Command → Order
 order_of q = order q.command q.a q.b q.c
 
 -- the store's answer as a reply: 4 is a refusal of the word layer, any other of the store
@@ -77,19 +78,19 @@ reply_to_order (running b s) (opening b' z) = declined 34 1 0
 reply_to_order (running b s) (calling c) = reply_of (answer b s c)
 
 -- a line: one that is not in the format changes nothing
-abbrev pub state_after_request : SheetState → Result Request FormatFault → SheetState
+abbrev pub state_after_request : SheetState → Result (Request Command) FormatFault → SheetState
 state_after_request s (Ok q) = state_after_order s (order_of q)
 state_after_request s (Err e) = s
 
-abbrev pub reply_to_request : SheetState → Result Request FormatFault → Reply
+abbrev pub reply_to_request : SheetState → Result (Request Command) FormatFault → Reply
 reply_to_request s (Ok q) = reply_to_order s (order_of q)
 reply_to_request s (Err e) = declined (format_refusal e) 1 (format_column e)
 
 abbrev pub state_after_line : SheetState → List ℕ → SheetState
-state_after_line s line = state_after_request s (parsed line)
+state_after_line s line = state_after_request s (parsed commands line)
 
 abbrev pub reply_to_line : SheetState → List ℕ → Reply
-reply_to_line s line = reply_to_request s (parsed line)
+reply_to_line s line = reply_to_request s (parsed commands line)
 
 -- 0 and the values of a call, padded with 0 to five numbers
 abbrev pub padded : List ℤ → List ℤ

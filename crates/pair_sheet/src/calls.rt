@@ -1,7 +1,7 @@
 // The calls of a sheet on its open store, and the values that each answers.
 ghost use Rattle.std.specs.Prelude.{◌≡◌, ℕ, true, [], ◌∷◌, pos};
 ghost use Rattle.rules.specs.Rules.{load, empty, copy, make, read, write, same, look, tell, step, full, flag};
-ghost use Rattle.heap.specs.Answers.{seen_values, seen_in_range};
+ghost use Rattle.registers.specs.Answers.{seen_values, seen_in_range};
 ghost use Rattle.lines.specs.Answers.{all_fit};
 ghost use Rattle.pair_sheet.specs.Pairs.{held};
 ghost use Rattle.pair_sheet.specs.Runs.{row_of_result, fits_result, Called};
@@ -142,7 +142,7 @@ fn tell<B: Barrier>(store: &mut Store<'_, Pair, B>) -> Result<[i64; 4], SheetFau
 // One call on an open store.
 pub(crate) fn perform<B: Barrier>(
     store: &mut Store<'_, Pair, B>,
-    request: Request,
+    request: Request<Command>,
 ) -> Result<[i64; 4], SheetFault>
     ensures state { running B.Barrier.answers (held store.new.heap) ≡ state_after_order (running B.Barrier.answers (held store.old.heap)) (order_of request) }
     ensures reply { (n : ℕ) → row_of_result n result ≡ row_of_reply n (reply_to_order (running B.Barrier.answers (held store.old.heap)) (order_of request)) }

@@ -47,3 +47,12 @@ ready_at (Err e) = Err Closed
 -- the index of a register, of n
 abbrev pub register_at : ℕ → ℤ → Result ℕ StoreFault
 register_at n r = cond (in_range r n) (Ok (index r)) (Err NoSuchRegister)
+
+-- then, or the first refusal
+abbrev pub and_then : {U V : Type 0} → Result U StoreFault → Result V StoreFault → Result V StoreFault
+and_then (Ok u) x = x
+and_then (Err e) x = Err e
+
+-- the index of a register of an open store, of n
+abbrev pub open_register : {U : Type 0} → Result U StoreFault → ℕ → ℤ → Result ℕ StoreFault
+open_register status n r = and_then (ready_at status) (register_at n r)

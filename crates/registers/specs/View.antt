@@ -1,18 +1,15 @@
--- What the tables of a heap hold, as a state of the rules.
-use Rattle.std.specs.Prelude.{◌≡◌, ◌≤◌, false, cond, [], length, take, drop, Some, None, Option}
+-- What the table of a heap of registers alone holds, as a state of the rules.
+use Rattle.std.specs.Prelude.{◌≡◌, ◌≤◌, false, [], length, take, drop}
 use Rattle.ring.specs.Arcs.{new_arcs}
 use Rattle.registers.specs.declared.heap.Heap.{Heap}
-use Rattle.registers.specs.declared.heap.Limits.{Limits}
-use Rattle.registers.specs.declared.sizes.Sizes.{Sizes}
-use Rattle.registers.specs.Opening.{natural, sizes_in_range}
 use Rattle.registers.specs.Answers.{told_why}
-use Rattle.registers.specs.State.{State, link_count}
+use Rattle.registers.specs.State.{State, sizes_in, link_count}
 
 -- the registers are the first R places of their table; nursery, old area and notes are empty, and every slot is free
 abbrev pub view : {B : Type 0} → Heap B → State
 view h = record {
   why = told_why h.status;
-  sizes = record { slots = h.limits.slots; places = h.limits.places; registers = h.limits.registers; scans = h.limits.scans; links = link_count };
+  sizes = sizes_in link_count h.limits;
   store = record {
     registers = take h.limits.registers h.registers.now;
     nursery = [];
@@ -30,10 +27,3 @@ Sound h = h.limits.registers ≤ length h.registers.now
 -- table places beyond the sizes hold what they held
 abbrev pub Beyond : {B : Type 0} → Heap B → Heap B → Type 0
 Beyond h k = drop h.limits.registers k.registers.now ≡ drop h.limits.registers h.registers.now
-
--- the sizes asked for, if each is in its range
-abbrev pub limits_of : Sizes → Option Limits
-limits_of z =
-    cond (sizes_in_range z)
-    (Some (record { slots = natural z.slots; places = natural z.places; registers = natural z.registers; scans = natural z.scans }))
-    None

@@ -1,25 +1,16 @@
 // The tables and sizes of a store, with the calls on them. The calls need the heap to be sound; every store has a sound one.
-ghost use Rattle.std.specs.Prelude.{◌≡◌, ◌≤◌, true, length, take, drop, replicate, IfOk};
+ghost use Rattle.std.specs.Prelude.{◌≡◌, true, length, drop, IfOk};
 ghost use Rattle.rules.specs.Rules.{load, empty, copy, same, look, done, do_look};
 ghost use Rattle.registers.specs.Answers.{seen_values, seen_in_range, told_done, told_flag, told_seen, told_why, register_at, ready_at};
-ghost use Rattle.registers.specs.Opening.{size_of};
+ghost use Rattle.registers.specs.Opening.{limits_over};
 ghost use Rattle.registers.specs.State.{after, answer, opened};
-ghost use Rattle.registers.specs.View.{view, limits_of, Sound, Beyond};
+ghost use Rattle.registers.specs.View.{view, Sound, Beyond};
 
 use crate::seen::Seen;
-use crate::sizes::Sizes;
+use crate::sizes::{Limits, Sizes};
 use kinds::barrier::Barrier;
 use kinds::fault::StoreFault;
 use words::word::{Word, number_word};
-
-// The sizes of an open store; all 0 where it is closed.
-#[derive(Clone, Copy)]
-pub struct Limits {
-    slots: u32,
-    places: u32,
-    registers: u32,
-    scans: u32,
-}
 
 #[derive(Drop)]
 pub struct Heap<'a, B: Barrier> {
@@ -27,33 +18,6 @@ pub struct Heap<'a, B: Barrier> {
     limits: Limits,
     status: Result<(), StoreFault>,
     barrier: B,
-}
-
-// A size from 1 to its greatest value.
-fn size(v: i64, most: u32) -> Option<u32>
-    ensures { result ≡ size_of most v }
-{
-    if v >= 1 && v <= most as i64 {
-        Some(v as u32)
-    } else {
-        None
-    }
-}
-
-// All sizes, if each is in its range.
-fn sizes_in_range(sizes: Sizes) -> Option<Limits>
-    ensures { result ≡ limits_of sizes }
-{
-    let slots = size(sizes.slots, 16_384)?;
-    let places = size(sizes.places, 1_024)?;
-    let registers = size(sizes.registers, 64)?;
-    let scans = size(sizes.scans, 16_384)?;
-    Some(Limits {
-        slots,
-        places,
-        registers,
-        scans,
-    })
 }
 
 // What a word is to a caller.
@@ -68,15 +32,15 @@ fn classify(w: u32) -> Seen
     }
 }
 
-// Puts nothing into the first registers.
-fn clear(registers: &mut [u32], n: usize)
-    requires { n ≤ length registers.old }
-    ensures cleared { take n registers.new ≡ replicate n 0 }
-    ensures beyond { drop n registers.new ≡ drop n registers.old }
+// The limits of a store of these sizes, if a table of so many places has one for each register.
+fn limits_for(sizes: Sizes, places: usize) -> Result<Limits, StoreFault>
+    ensures { result ≡ limits_over sizes places }
 {
-    for i in 0..n {
-        registers[i] = 0;
+    let limits = Limits::try_from(sizes)?;
+    if places < limits.registers as usize {
+        return Err(StoreFault::TableShort);
     }
+    Ok(limits)
 }
 
 impl<'a, B: Barrier> Heap<'a, B> {
@@ -86,34 +50,13 @@ impl<'a, B: Barrier> Heap<'a, B> {
         ensures state { view result ≡ opened sizes (length registers.old) }
         ensures beyond { drop result.limits.registers result.registers.now ≡ drop result.limits.registers registers.old }
     {
-        let none = Limits {
-            slots: 0,
-            places: 0,
-            registers: 0,
-            scans: 0,
-        };
-        let Some(limits) = sizes_in_range(sizes) else {
-            return Heap {
-                registers,
-                limits: none,
-                status: Err(StoreFault::SizeOutOfRange),
-                barrier,
-            };
-        };
-        let n = limits.registers as usize;
-        if registers.len() < n {
-            return Heap {
-                registers,
-                limits: none,
-                status: Err(StoreFault::TableShort),
-                barrier,
-            };
-        }
-        clear(registers, n);
+        let asked = limits_for(sizes, registers.len());
+        let limits = asked.unwrap_or_default();
+        registers[..limits.registers as usize].fill(0);
         Heap {
             registers,
             limits,
-            status: Ok(()),
+            status: asked.map(|_| ()),
             barrier,
         }
     }

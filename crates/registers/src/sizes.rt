@@ -1,4 +1,8 @@
-// The sizes of a store, as a caller hands them in.
+// The sizes of a store: as a caller hands them in, and in range.
+ghost use Rattle.std.specs.Prelude.{◌≡◌};
+ghost use Rattle.registers.specs.Opening.{size_of, limits_of};
+
+use kinds::fault::StoreFault;
 
 // S slots (1 to 16,384), Y nursery places (1 to 1,024), R registers (1 to 64) and K scans a step (1 to 16,384).
 #[derive(Clone, Copy, PartialEq, Eq, Debug)]
@@ -7,4 +11,39 @@ pub struct Sizes {
     pub places: i64,
     pub registers: i64,
     pub scans: i64,
+}
+
+// The sizes of an open store; all 0 where it is closed.
+#[derive(Clone, Copy, PartialEq, Eq, Debug, Default)]
+pub struct Limits {
+    pub slots: u32,
+    pub places: u32,
+    pub registers: u32,
+    pub scans: u32,
+}
+
+// A size from 1 to its greatest value.
+fn size(v: i64, most: u32) -> Result<u32, StoreFault>
+    ensures { result ≡ size_of most v }
+{
+    u32::try_from(v)
+        .ok()
+        .filter(|n| 1 <= *n && *n <= most)
+        .ok_or(StoreFault::SizeOutOfRange)
+}
+
+// All sizes, if each is in its range.
+impl TryFrom<Sizes> for Limits {
+    type Error = StoreFault;
+
+    ghost try_from_gives = { λ z r. r ≡ limits_of z };
+
+    fn try_from(sizes: Sizes) -> Result<Limits, StoreFault> {
+        Ok(Limits {
+            slots: size(sizes.slots, 16_384)?,
+            places: size(sizes.places, 1_024)?,
+            registers: size(sizes.registers, 64)?,
+            scans: size(sizes.scans, 16_384)?,
+        })
+    }
 }

@@ -7,13 +7,13 @@ use Rattle.std.proofs.lemmas.Bool.{cond-true, cond-false}
 use Rattle.std.proofs.lemmas.Bool.Decides.{nat_tests}
 use Rattle.rules.specs.Rules.{Barrier}
 use Rattle.registers.specs.State.{State}
-use Rattle.sheet.specs.declared.answer.RowFault.{RowFault}
-use Rattle.sheet.specs.declared.answer.RowFault.TheVariants.{NoMemory}
-use Rattle.sheet.specs.Answers.{row_bytes}
-use Rattle.sheet.specs.Lines.{lines, line_end}
+use Rattle.lines.specs.declared.answer.RowFault.{RowFault}
+use Rattle.lines.specs.declared.answer.RowFault.TheVariants.{NoMemory}
+use Rattle.lines.specs.Answers.{row_bytes}
+use Rattle.lines.specs.Lines.{lines, line_end}
 use Rattle.sheet.specs.Sheets.{SheetState, waiting, running, Reply, state_opened, reply_opened, state_after_line, reply_to_line, row_of_reply, next_line, written_for}
 use Rattle.sheet.specs.Runs.{written_after}
-use Rattle.sheet.proofs.Lines.{lines_none, lines_more}
+use Rattle.lines.proofs.Lines.{lines_none, lines_more}
 
 -- four values that were passed on one by one
 pub four_values : (v : List ℤ) → length v ≡ 4 → ((i : ℕ) → i < 4 → SFits w64 (get_or v i (pos 0))) → to_z w64 (of_z w64 (get_or v 0 (pos 0))) ∷ (to_z w64 (of_z w64 (get_or v 1 (pos 0))) ∷ (to_z w64 (of_z w64 (get_or v 2 (pos 0))) ∷ (to_z w64 (of_z w64 (get_or v 3 (pos 0))) ∷ []))) ≡ v

@@ -1,6 +1,6 @@
--- The commands of a sheet: their texts and how many fields each uses.
-use Rattle.std.specs.Prelude.{ℕ, cond, List, [], ◌∷◌, Some, None, codes, Option}
-use Rattle.std.specs.Str.{bytes_eq}
+-- The commands of a sheet of registers: their texts and how many fields each uses.
+use Rattle.std.specs.Prelude.{ℕ, List, [], ◌∷◌, codes}
+use Rattle.lines.specs.CommandSets.{Commands}
 use Rattle.sheet.specs.declared.command.Command.{Command}
 use Rattle.sheet.specs.declared.command.Command.TheVariants.{OpenSnapshot, OpenUpdate, Load, Empty, Copy, Same, Look}
 
@@ -16,15 +16,6 @@ command_table =
     ∷ (codes "look  ", Look)
     ∷ []
 
--- the command of the first row with this text
-abbrev pub command_in : List (List ℕ × Command) → List ℕ → Option Command
-command_in [] name = None
-command_in (row ∷ rows) name = cond (bytes_eq name row.0) (Some row.1) (command_in rows name)
-
--- the command with this text
-unfoldable pub command_named : List ℕ → Option Command
-command_named name = command_in command_table name
-
 -- how many of the three fields a command uses; they are the first ones
 abbrev pub field_count : Command → ℕ
 field_count OpenSnapshot = 3
@@ -34,3 +25,6 @@ field_count Empty = 1
 field_count Copy = 2
 field_count Same = 2
 field_count Look = 1
+
+abbrev pub commands : Commands Command
+commands = record { table = command_table; field_count = field_count }

@@ -5,7 +5,7 @@ use Rattle.kinds.specs.declared.fault.StoreFault.{StoreFault}
 use Rattle.kinds.specs.declared.fault.StoreFault.TheVariants.{SizeOutOfRange, TableShort, NoSuchRegister, Word, NoSuchLink, WrongLinkCount, BadDose, Closed, NoRecord, NurseryFull, NoRoom, NotesFull, EndlessChain}
 use Rattle.sheet.specs.declared.fault.SheetFault.{SheetFault}
 use Rattle.sheet.specs.declared.fault.SheetFault.TheVariants.{Format, OutOfTurn, Store}
-use Rattle.sheet.specs.Requests.{format_refusal, format_column}
+use Rattle.lines.specs.Requests.{format_refusal, format_column}
 
 -- the number: a refusal of the store keeps its own
 abbrev pub sheet_refusal : SheetFault → ℕ

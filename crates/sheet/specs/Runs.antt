@@ -5,7 +5,7 @@ use Rattle.registers.specs.State.{opened}
 use Rattle.sheet.specs.declared.fault.SheetFault.{SheetFault}
 use Rattle.sheet.specs.declared.run.Opening.{Opening}
 use Rattle.sheet.specs.declared.run.Opening.TheVariants.{WithSnapshot, WithUpdate}
-use Rattle.sheet.specs.Answers.{all_fit, row_bytes}
+use Rattle.lines.specs.Answers.{all_fit, row_bytes}
 use Rattle.sheet.specs.Faults.{sheet_refusal, sheet_layer, sheet_column}
 use Rattle.sheet.specs.Sheets.{SheetState, waiting, Reply, declined, register_count, state_opened, reply_opened, row_of_reply, next_line, written_for}
 

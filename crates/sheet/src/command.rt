@@ -1,6 +1,8 @@
-// The commands of a sheet.
-ghost use Rattle.std.specs.Prelude.{◌≡◌};
-ghost use Rattle.sheet.specs.Commands.{command_table, command_in, field_count};
+// The commands of a sheet of registers.
+ghost use Rattle.std.specs.Prelude.{refl};
+ghost use Rattle.sheet.specs.Commands.{commands};
+
+use lines::command_set::{CommandSet, command_in};
 
 #[derive(Clone, Copy, PartialEq, Eq, Debug)]
 pub enum Command {
@@ -24,34 +26,20 @@ const COMMANDS: [([u8; 6], Command); 7] = [
     (*b"look  ", Command::Look),
 ];
 
-// The command of the first row with this text.
-fn command_in(rows: &[([u8; 6], Command)], name: &[u8]) -> Option<Command>
-    ensures { result ≡ command_in rows.now name.now }
-{
-    for (text, command) in rows {
-        if name == text.as_slice() {
-            return Some(*command);
-        }
-    }
-    None
-}
+impl CommandSet for Command {
+    ghost commands = { commands };
 
-impl Command {
-    // The command with this text, which fills six columns.
-    pub fn parse(name: &[u8]) -> Option<Command>
-        ensures { result ≡ command_in command_table name.now }
-    {
+    fn parse(name: &[u8]) -> Option<Command> {
         command_in(&COMMANDS, name)
     }
 
-    // How many of the three fields the command uses; they are the first ones.
-    pub fn field_count(self) -> usize
-        ensures { result ≡ field_count self }
-    {
+    fn field_count(self) -> usize {
         match self {
             Command::OpenSnapshot | Command::OpenUpdate => 3,
             Command::Load | Command::Copy | Command::Same => 2,
             Command::Empty | Command::Look => 1,
         }
     }
+
+    ghost texts = { refl };
 }

@@ -3,8 +3,8 @@ ghost use Rattle.std.specs.Prelude.{◌≡◌};
 ghost use Rattle.sheet.specs.Faults.{sheet_refusal, sheet_layer, sheet_column};
 ghost use Rattle.sheet.specs.declared.fault.SheetFault.TheVariants.{Format, Store};
 
-use crate::request::FormatFault;
 use kinds::fault::StoreFault;
+use lines::request::FormatFault;
 
 #[derive(Clone, Copy, PartialEq, Eq, Debug)]
 pub enum SheetFault {

@@ -1,14 +1,12 @@
-// The sheet: commands in fixed columns, one to a line, and answers in fixed columns.
+// The sheet of registers: its commands, one to a line, and their answers.
 #![tactic(auto)]
 
-pub mod answer;
-pub mod column;
 pub mod command;
 pub mod fault;
-pub mod line;
-pub mod request;
 pub mod run;
 #[cfg(test)]
 mod run_tests;
 #[cfg(test)]
 mod tests;
+
+pub use lines::{answer, column, line, request};

@@ -3,18 +3,18 @@ ghost use Rattle.std.specs.Prelude.{◌≡◌, ℕ, ◌+◌, ◌≤◌, min, tru
 ghost use Rattle.registers.specs.Answers.{seen_values, seen_in_range};
 ghost use Rattle.registers.specs.State.{opened};
 ghost use Rattle.registers.specs.View.{view};
-ghost use Rattle.sheet.specs.Answers.{all_fit, row_bytes};
-ghost use Rattle.sheet.specs.Lines.{lines};
+ghost use Rattle.lines.specs.Answers.{all_fit, row_bytes};
+ghost use Rattle.lines.specs.Lines.{lines};
 ghost use Rattle.sheet.specs.Runs.{row_of_result, fits_result, state_after_opening, reply_to_opening, state_after_asked, reply_to_asked, written_after};
 ghost use Rattle.sheet.specs.Sheets.{waiting, running, register_count, order_of, state_opened, reply_opened, state_after_order, reply_to_order, state_after_line, reply_to_line, row_of_reply, padded, next_line, written_for, sheet_output};
-ghost use Rattle.sheet.specs.declared.answer.RowFault.TheVariants.{NoMemory};
+ghost use Rattle.lines.specs.declared.answer.RowFault.TheVariants.{NoMemory};
 
-use crate::answer::{RowFault, push_row};
 use crate::command::Command;
 use crate::fault::SheetFault;
-use crate::line::line_end;
-use crate::request::{Request, parse_line};
 use kinds::barrier::{Barrier, Snapshot, Update};
+use lines::answer::{RowFault, push_row};
+use lines::line::line_end;
+use lines::request::{Request, parse_line};
 use registers::seen::Seen;
 use registers::sizes::Sizes;
 use registers::store::Store;
@@ -86,7 +86,10 @@ fn after_line(end: usize, len: usize) -> usize
 }
 
 // One call on an open store.
-fn perform<B: Barrier>(store: &mut Store<B>, request: Request) -> Result<[i64; 4], SheetFault>
+fn perform<B: Barrier>(
+    store: &mut Store<B>,
+    request: Request<Command>,
+) -> Result<[i64; 4], SheetFault>
     ensures state { running B.Barrier.answers (view store.new.heap) ≡ state_after_order (running B.Barrier.answers (view store.old.heap)) (order_of request) }
     ensures reply { (n : ℕ) → row_of_result n result ≡ row_of_reply n (reply_to_order (running B.Barrier.answers (view store.old.heap)) (order_of request)) }
     ensures fits { fits_result result ≡ true }

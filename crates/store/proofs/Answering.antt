@@ -4,8 +4,8 @@ use Rattle.rules.specs.Rules.{Barrier}
 use Rattle.rules.specs.Rules as rules
 use Rattle.kinds.specs.declared.fault.StoreFault.{StoreFault}
 use Rattle.kinds.specs.declared.kind.Kind.{Ghosts}
-use Rattle.heap.specs.Answers.{told_done}
-use Rattle.heap.specs.State.{State, answer}
+use Rattle.registers.specs.Answers.{told_done}
+use Rattle.registers.specs.State.{State, answer}
 use Rattle.store.specs.declared.call.Call.{Call}
 use Rattle.store.specs.declared.call.Answer.TheVariants.{Done}
 use Rattle.store.specs.Calls.{Outcome, call_of, as_answer, told_call, Suits, Answers}

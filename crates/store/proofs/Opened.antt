@@ -13,10 +13,12 @@ use Rattle.rules.proofs.Statements.{nothing_in_use_is_taken_back}
 use Rattle.kinds.specs.declared.kind.Kind.{Ghosts}
 use Rattle.heap.specs.declared.heap.Heap.{Heap}
 use Rattle.heap.specs.declared.heap.tables.Tables.{Tables}
-use Rattle.heap.specs.declared.sizes.Sizes.{Sizes as Asked}
+use Rattle.registers.specs.declared.sizes.Sizes.{Sizes as Asked}
 use Rattle.heap.specs.Meaning.{meaning_of}
-use Rattle.heap.specs.Opening.{from_one_to, natural, sizes_in_range, tables_long, why_of}
-use Rattle.heap.specs.State.{open_at, closed_state, opened, sizes_of}
+use Rattle.registers.specs.Opening.{from_one_to, natural, sizes_in_range}
+use Rattle.heap.specs.Opening.{tables_long, why_of}
+use Rattle.registers.specs.State.{sizes_of}
+use Rattle.heap.specs.State.{open_at, closed_state, opened}
 use Rattle.heap.specs.View.{contents, view, Rest, Frame}
 use Rattle.heap.specs.Lent.{Lent}
 use Rattle.store.specs.declared.call.Call.{Call}

@@ -7,7 +7,7 @@ use Rattle.rules.specs.History.{History, history_call, history_run}
 use Rattle.rules.specs.Promise.{Agrees, NeverLacksRoom}
 use Rattle.kinds.specs.declared.kind.Kind.{Ghosts}
 use Rattle.heap.specs.declared.heap.Heap.{Heap}
-use Rattle.heap.specs.State.{State, after}
+use Rattle.registers.specs.State.{State, after}
 use Rattle.heap.specs.View.{view}
 use Rattle.store.specs.declared.call.Call.{Call}
 use Rattle.store.specs.Calls.{Outcome, call_of, told_call, Answers, AllAnswered, after_all}

@@ -5,9 +5,9 @@ use Rattle.rules.specs.Rules as rules
 use Rattle.kinds.specs.Faults.{store_refusal}
 use Rattle.kinds.specs.declared.fault.StoreFault.{StoreFault}
 use Rattle.kinds.specs.declared.kind.Kind.{Ghosts}
-use Rattle.heap.specs.Answers.{seen_values}
-use Rattle.heap.specs.State.{State, after, answer}
-use Rattle.heap.specs.declared.seen.Seen.{Seen}
+use Rattle.registers.specs.Answers.{seen_values}
+use Rattle.registers.specs.State.{State, after, answer}
+use Rattle.registers.specs.declared.seen.Seen.{Seen}
 use Rattle.heap.specs.declared.stepped.Stepped.{Stepped}
 use Rattle.ring.specs.declared.arcs.Lengths.{Lengths}
 use Rattle.store.specs.declared.call.Call.{Call}

@@ -9,10 +9,12 @@ use Rattle.rules.specs.Promise.{Faithful, LiveAtMost, room_for, Promise}
 use Rattle.kinds.specs.declared.kind.Kind.{Ghosts}
 use Rattle.heap.specs.declared.heap.Heap.{Heap}
 use Rattle.heap.specs.declared.heap.tables.Tables.{Tables}
-use Rattle.heap.specs.declared.sizes.Sizes.{Sizes as Asked}
+use Rattle.registers.specs.declared.sizes.Sizes.{Sizes as Asked}
 use Rattle.heap.specs.Meaning.{meaning_of}
-use Rattle.heap.specs.Opening.{why_of, natural}
-use Rattle.heap.specs.State.{State, opened, sizes_of}
+use Rattle.registers.specs.Opening.{natural}
+use Rattle.heap.specs.Opening.{why_of}
+use Rattle.registers.specs.State.{State, sizes_of}
+use Rattle.heap.specs.State.{opened}
 use Rattle.heap.specs.View.{contents, view, Rest}
 use Rattle.store.specs.declared.call.Call.{Call}
 use Rattle.store.specs.Calls.{Outcome, call_of, told_call, AllAnswered, after_all}

@@ -1,9 +1,10 @@
 // A call made of a store, given as a value.
 ghost use Rattle.std.specs.Prelude.{◌≡◌, IfOk, Ok, Err};
 ghost use Rattle.rules.specs.Rules.{plain};
-ghost use Rattle.heap.specs.Answers.{told_count, told_done, told_flag, told_lengths, told_seen};
+ghost use Rattle.registers.specs.Answers.{told_done, told_flag, told_seen};
+ghost use Rattle.heap.specs.Answers.{told_count, told_lengths};
 ghost use Rattle.heap.specs.Collecting.{told_step};
-ghost use Rattle.heap.specs.State.{after, answer};
+ghost use Rattle.registers.specs.State.{after, answer};
 ghost use Rattle.heap.specs.View.{view, Frame};
 ghost use Rattle.store.specs.Calls.{call_of, as_answer, told_call, GivenBare, Answers};
 ghost use Rattle.store.specs.declared.call.Answer.TheVariants.{Done, Count, Given, Flag, Held, Arcs, Collected};

@@ -3,10 +3,12 @@ ghost use Rattle.std.specs.Prelude.{◌≡◌, ◌≤◌, true, false, replicate
 ghost use Rattle.ring.specs.View.{Fine, slots_of, is_open_of};
 ghost use Rattle.rules.specs.Rules.{load, empty, copy, make, read, write, fill, plain, same, look, tell, step, full};
 ghost use Rattle.rules.specs.Chains.{FollowedToTheEnd, TallyIsTheBooks};
-ghost use Rattle.heap.specs.Answers.{seen_in_range, told_count, told_done, told_flag, told_lengths, told_plain, told_seen, told_why};
+ghost use Rattle.registers.specs.Answers.{seen_in_range, told_done, told_flag, told_seen, told_why};
+ghost use Rattle.heap.specs.Answers.{told_count, told_lengths, told_plain};
 ghost use Rattle.heap.specs.Collecting.{told_step};
 ghost use Rattle.heap.specs.Lent.{Lent};
-ghost use Rattle.heap.specs.State.{after, answer, opened};
+ghost use Rattle.registers.specs.State.{after, answer};
+ghost use Rattle.heap.specs.State.{opened};
 ghost use Rattle.heap.specs.Tallies.{ByChain, answer_tally, told_tally};
 ghost use Rattle.heap.specs.View.{view, Frame, LongEnough, Counted, Remembered};
 

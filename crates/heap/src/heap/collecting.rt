@@ -3,7 +3,7 @@ ghost use Rattle.std.specs.Prelude.{◌≡◌, ◌≤◌, false, IfOk, OnOk};
 ghost use Rattle.ring.specs.View.{is_open_of};
 ghost use Rattle.rules.specs.Rules.{step, full};
 ghost use Rattle.heap.specs.Collecting.{told_step};
-ghost use Rattle.heap.specs.State.{after, answer};
+ghost use Rattle.registers.specs.State.{after, answer};
 ghost use Rattle.heap.specs.View.{view, Sound, Frame};
 
 use crate::heap::Heap;

@@ -4,7 +4,7 @@ ghost use Rattle.words.specs.Words.{nursery_word};
 ghost use Rattle.rules.specs.Rules.{make, in_range, index, all_in, links_from, with_nursery};
 ghost use Rattle.heap.specs.Answers.{room_at, open_make_index, told_count};
 ghost use Rattle.heap.specs.Meaning.{meaning_of};
-ghost use Rattle.heap.specs.State.{after, answer, with_store};
+ghost use Rattle.registers.specs.State.{after, answer, with_store};
 ghost use Rattle.heap.specs.View.{view, Sound, Frame};
 
 use crate::heap::Heap;

@@ -1,9 +1,10 @@
 // The calls that read and fill records, and the count of the arcs.
 ghost use Rattle.std.specs.Prelude.{◌≡◌, replicate, MatchResult, slice_index};
 ghost use Rattle.rules.specs.Rules.{read, fill, plain, tell, record_at, put_record, with_plain};
-ghost use Rattle.heap.specs.Answers.{link_index, Within, told_done, told_plain, told_lengths};
+ghost use Rattle.registers.specs.Answers.{told_done};
+ghost use Rattle.heap.specs.Answers.{link_index, Within, told_plain, told_lengths};
 ghost use Rattle.heap.specs.Meaning.{meaning_of};
-ghost use Rattle.heap.specs.State.{after, answer, with_store};
+ghost use Rattle.registers.specs.State.{after, answer, with_store};
 ghost use Rattle.heap.specs.View.{view, Sound, Frame};
 
 use crate::heap::Heap;

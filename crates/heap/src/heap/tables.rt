@@ -1,9 +1,10 @@
 // The tables that a caller lends to a store.
 ghost use Rattle.std.specs.Prelude.{◌≡◌};
-ghost use Rattle.heap.specs.Opening.{tables_long};
+ghost use Rattle.heap.specs.Opening.{tables_long, limits_over};
 
-use crate::heap::Limits;
 use crate::rows::{Forward, Note};
+use crate::sizes::{Limits, Sizes};
+use kinds::fault::StoreFault;
 use kinds::kind::Kind;
 
 // Two areas of records, the registers, the forwarding and the note table, and the three tables of the ring.
@@ -21,7 +22,7 @@ pub struct Tables<'a, T: Kind> {
 
 impl<T: Kind> Tables<'_, T> {
     // Whether each table has as many places as the sizes ask for.
-    pub(crate) fn are_long(&self, limits: Limits) -> bool
+    fn are_long(&self, limits: Limits) -> bool
         ensures { result ≡ tables_long limits.slots limits.places limits.registers self.now }
     {
         let slots = limits.slots as usize;
@@ -35,5 +36,15 @@ impl<T: Kind> Tables<'_, T> {
             && slots <= self.next.len()
             && slots <= self.previous.len()
             && slots <= self.stamp.len()
+    }
+    // The limits of a store of these sizes, if they are in range and each table is long enough.
+    pub(crate) fn limits_for(&self, sizes: Sizes) -> Result<Limits, StoreFault>
+        ensures { result ≡ limits_over sizes self.now }
+    {
+        let limits = Limits::try_from(sizes)?;
+        if !self.are_long(limits) {
+            return Err(StoreFault::TableShort);
+        }
+        Ok(limits)
     }
 }

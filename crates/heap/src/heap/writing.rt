@@ -2,8 +2,9 @@
 ghost use Rattle.std.specs.Prelude.{◌≡◌, ◌<◌};
 ghost use Rattle.words.specs.declared.place.Place.TheVariants.{Young, Old};
 ghost use Rattle.rules.specs.Rules.{write, do_write};
-ghost use Rattle.heap.specs.Answers.{told_done, Within};
-ghost use Rattle.heap.specs.State.{after, answer, with_store};
+ghost use Rattle.registers.specs.Answers.{told_done};
+ghost use Rattle.heap.specs.Answers.{Within};
+ghost use Rattle.registers.specs.State.{after, answer, with_store};
 ghost use Rattle.heap.specs.View.{view, Sound, Frame};
 
 use crate::heap::Heap;

@@ -1,22 +1,13 @@
-use Rattle.std.proofs.Common.{eqb, arith}
-use Rattle.std.proofs.lemmas.Bool.{eq-eqb, ne_eqb}
-use Rattle.std.proofs.lemmas.List.Sums.{prefix_len-drop_yes, prefix_len-drop_no, prefix_len-drop_all}
+use Rattle.std.proofs.Common.{not, eqb, ap, ◌∙◌, length, rules}
+use borrow.Author.Tests.{tests}
+use Rattle.std.specs.Option.{unwrap_or}
+use Rattle.std.proofs.lemmas.Iterator.{YieldsList-from_slice}
+use Rattle.std.proofs.lemmas.Iterator.Search.{position_from_yields_List}
+use Rattle.lines.proofs.Places.{first_or_all, twice_not}
 use Rattle.lines.proofs.column.leading_blanks.Goals as goal
 
-pub returns-then-b-ne32 : goal.returns-then-b-ne32
-returns-then-b-ne32 c =
-    record {
-      value = omega (arith, c.loop-i.invariant, prefix_len-drop_no (λ b. eqb b 32) c.args.row.now c.loop-i.i 0 c.loop-i-test.true (ne_eqb _ 32 c.if-b-ne32.true));
-      within = omega arith;
-    }
-
-pub loop-i-preserved : goal.loop-i-preserved
-loop-i-preserved c =
-    omega (arith, c.loop-i.invariant, prefix_len-drop_yes (λ b. eqb b 32) c.args.row.now c.loop-i.i 0 c.loop-i-test.true (eq-eqb _ 32 c.if-b-ne32.false))
-
-pub returns : goal.returns
-returns c =
-    record {
-      value = omega (arith, c.loop-i.invariant, prefix_len-drop_all (λ b. eqb b 32) c.args.row.now c.loop-i.i c.loop-i-test.false);
-      within = omega arith;
-    }
+pub returns-clause-value : goal.returns-clause-value
+returns-clause-value c =
+    let row = c.args.row.now in
+    let found = position_from_yields_List (λ b. not (eqb b 32)) _ _ c.position.result c.position.ensures.ran (YieldsList-from_slice row cc) (λ x b q k. search (rules, tests)) in
+    c.unwrap_or.ensures ∙ ap (λ o. unwrap_or o (length row)) found ∙ first_or_all (λ b. not (eqb b 32)) row ∙ twice_not (λ b. eqb b 32) row

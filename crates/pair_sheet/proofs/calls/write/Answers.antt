@@ -1,8 +1,8 @@
 use Rattle.std.proofs.Common.{◌≡◌, Err, sym, ap, ◌∙◌, rules}
 use Rattle.rules.specs.Rules.{write, refused}
 use Rattle.kinds.specs.Faults.{store_refusal}
-use Rattle.heap.specs.Answers.{told_done}
-use Rattle.heap.specs.State.{after, answer}
+use Rattle.registers.specs.Answers.{told_done}
+use Rattle.registers.specs.State.{after, answer}
 use Rattle.pair_sheet.specs.Pairs.{held}
 use Rattle.pair_sheet.specs.declared.fault.SheetFault.TheVariants.{Store}
 use Rattle.pair_sheet.proofs.Called.{called_refused, write_passed}

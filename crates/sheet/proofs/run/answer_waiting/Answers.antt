@@ -1,5 +1,5 @@
 use Rattle.std.proofs.Common.{◌∷◌, Err, vec_items, refl, ap}
-use Rattle.sheet.specs.Lines.{lines}
+use Rattle.lines.specs.Lines.{lines}
 use Rattle.sheet.specs.Runs.{row_of_result, state_after_opening, reply_to_opening, written_after}
 use Rattle.sheet.specs.Sheets.{waiting, row_of_reply, next_line, written_for}
 use Rattle.sheet.proofs.Runs.{written_line, written_step, told_same}

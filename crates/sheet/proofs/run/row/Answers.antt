@@ -1,5 +1,5 @@
 use Rattle.std.proofs.Common.{◌≡◌, ℕ, ◌<◌, ◌∷◌, length, get_or, pos, sym, ap, ◌∙◌, w64, SFits, rules}
-use Rattle.sheet.specs.Answers.{all_fit}
+use Rattle.lines.specs.Answers.{all_fit}
 use Rattle.sheet.specs.Runs.{row_of_result, fits_result}
 use Rattle.sheet.proofs.Runs.{four_values}
 use Rattle.sheet.proofs.run.row.Goals as goal

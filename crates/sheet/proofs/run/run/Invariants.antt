@@ -1,5 +1,5 @@
 use Rattle.std.proofs.Common.{◌≡◌, ◌-◌, ◌≤◌, ◌++◌, length, drop, vec_items}
-use Rattle.sheet.specs.Lines.{lines}
+use Rattle.lines.specs.Lines.{lines}
 use Rattle.sheet.specs.Sheets.{waiting, written_for, sheet_output}
 use Rattle.sheet.proofs.run.run.Given as goal
 

@@ -1,6 +1,6 @@
 use Rattle.std.proofs.Common.{◌++◌, vec_items, sym, ◌∙◌}
 use Rattle.registers.specs.View.{view}
-use Rattle.sheet.specs.Lines.{lines}
+use Rattle.lines.specs.Lines.{lines}
 use Rattle.sheet.specs.Runs.{row_of_result}
 use Rattle.sheet.specs.Sheets.{running, written_for}
 use Rattle.sheet.proofs.Runs.{run_step, written_last}

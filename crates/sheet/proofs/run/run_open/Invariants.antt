@@ -1,6 +1,6 @@
 use Rattle.std.proofs.Common.{◌≡◌, ◌-◌, ◌≤◌, ◌++◌, length, drop, vec_items}
 use Rattle.registers.specs.View.{view}
-use Rattle.sheet.specs.Lines.{lines}
+use Rattle.lines.specs.Lines.{lines}
 use Rattle.sheet.specs.Sheets.{running, written_for}
 use Rattle.sheet.proofs.run.run_open.Given as goal
 

@@ -1,7 +1,7 @@
 use Rattle.std.proofs.Common.{vec_items, sym, ◌∙◌}
 use Rattle.registers.specs.State.{opened}
 use Rattle.registers.specs.View.{view}
-use Rattle.sheet.specs.Lines.{lines}
+use Rattle.lines.specs.Lines.{lines}
 use Rattle.sheet.specs.Sheets.{register_count}
 use Rattle.sheet.specs.Runs.{row_of_result}
 use Rattle.sheet.proofs.Runs.{refused_open, accepted_open}

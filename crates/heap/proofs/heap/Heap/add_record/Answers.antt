@@ -1,7 +1,7 @@
 use Rattle.std.proofs.Common.{◌+◌, ◌<◌, length, ap, ◌∙◌, arith}
 use Rattle.rules.specs.Rules.{with_nursery}
 use Rattle.heap.specs.Meaning.{meaning_of}
-use Rattle.heap.specs.State.{with_store}
+use Rattle.registers.specs.State.{with_store}
 use Rattle.heap.specs.View.{view, front, Rest}
 use Rattle.heap.proofs.Framing.{rest_set}
 use Rattle.heap.proofs.Fronts.{front_push}

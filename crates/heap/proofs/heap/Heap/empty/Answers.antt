@@ -2,7 +2,7 @@ use Rattle.std.proofs.Common.{Err, refl, ap, ◌∙◌}
 use Rattle.std.proofs.lemmas.Result.{err_from_is_err_and}
 use Rattle.kinds.specs.declared.fault.StoreFault.TheVariants.{NoSuchRegister}
 use Rattle.rules.specs.Rules.{empty}
-use Rattle.heap.specs.Answers.{told_done}
+use Rattle.registers.specs.Answers.{told_done}
 use Rattle.heap.specs.View.{view}
 use Rattle.heap.proofs.Accepted.{index_tells}
 use Rattle.heap.proofs.Framing.{frame_refl}

@@ -1,7 +1,7 @@
 use Rattle.std.proofs.Common.{[], Err, refl, ap, ◌∙◌}
 use Rattle.std.proofs.lemmas.Result.{err_from_is_err_and}
 use Rattle.rules.specs.Rules.{fill, done, put_record, with_plain, record_at}
-use Rattle.heap.specs.Answers.{told_done}
+use Rattle.registers.specs.Answers.{told_done}
 use Rattle.heap.specs.View.{view}
 use Rattle.heap.proofs.Accepted.{open_after, open_answer}
 use Rattle.heap.proofs.Collections.{fill_run}

@@ -1,7 +1,7 @@
 use Rattle.std.proofs.Common.{◌<◌, sym, ap, ◌∙◌, subst, arith}
 use Rattle.rules.specs.Rules.{record_at, put_record, with_plain}
 use Rattle.heap.specs.Answers.{Within}
-use Rattle.heap.specs.State.{with_store}
+use Rattle.registers.specs.State.{with_store}
 use Rattle.heap.specs.View.{view, contents, Rest}
 use Rattle.heap.proofs.Found.{young_put, old_put}
 use Rattle.heap.proofs.Framing.{rest_refl}

@@ -1,6 +1,6 @@
 use Rattle.std.proofs.Common.{◌≡◌, [], ◌∷◌, sym, ap, ◌∙◌}
 use Rattle.rules.specs.Rules.{full, counts}
-use Rattle.heap.specs.Answers.{told_why}
+use Rattle.registers.specs.Answers.{told_why}
 use Rattle.heap.specs.View.{view, contents}
 use Rattle.heap.proofs.Accepted.{open_tells, open_after, open_answer}
 use Rattle.heap.proofs.Collections.{view_framed, full_run}

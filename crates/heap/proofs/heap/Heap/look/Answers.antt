@@ -2,7 +2,7 @@ use Rattle.std.proofs.Common.{get_or, Err, refl, ap, ◌∙◌}
 use Rattle.std.proofs.lemmas.Result.{err_from_is_err_and, IfOk-from_err}
 use Rattle.kinds.specs.declared.fault.StoreFault.TheVariants.{NoSuchRegister}
 use Rattle.rules.specs.Rules.{look, do_look, reg}
-use Rattle.heap.specs.Answers.{told_seen}
+use Rattle.registers.specs.Answers.{told_seen}
 use Rattle.heap.specs.View.{view}
 use Rattle.heap.proofs.Accepted.{index_tells, open_after, open_answer}
 use Rattle.heap.proofs.Framing.{frame_refl}

@@ -1,6 +1,6 @@
 use Rattle.std.proofs.Common.{ap}
 use Rattle.rules.specs.Rules.{with_registers}
-use Rattle.heap.specs.State.{with_store}
+use Rattle.registers.specs.State.{with_store}
 use Rattle.heap.specs.View.{view}
 use Rattle.heap.proofs.Framing.{rest_refl, rest_set}
 use Rattle.heap.proofs.Fronts.{take_set_any}

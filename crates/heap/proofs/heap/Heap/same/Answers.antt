@@ -2,7 +2,7 @@ use Rattle.std.proofs.Common.{ℕ, eqb, [], ◌∷◌, get_or, Err, refl, ap, �
 use Rattle.std.proofs.lemmas.Result.{err_from_is_err_and}
 use Rattle.kinds.specs.declared.fault.StoreFault.TheVariants.{NoSuchRegister}
 use Rattle.rules.specs.Rules.{same, counts, flag, reg}
-use Rattle.heap.specs.Answers.{told_flag}
+use Rattle.registers.specs.Answers.{told_flag}
 use Rattle.heap.specs.View.{view}
 use Rattle.heap.proofs.Accepted.{index_tells, open_after, open_answer}
 use Rattle.heap.proofs.Framing.{frame_refl}

@@ -1,7 +1,7 @@
 use Rattle.std.proofs.Common.{◌≡◌, ◌≤◌, [], ◌∷◌, Err, sym, refl, ap, ◌∙◌, subst}
 use Rattle.rules.specs.Rules.{step, counts, flag}
 use Rattle.std.proofs.lemmas.Result.{err_from_is_err_and, IfOk-from_err}
-use Rattle.heap.specs.Answers.{told_why}
+use Rattle.registers.specs.Answers.{told_why}
 use Rattle.heap.specs.Collecting.{told_step}
 use Rattle.heap.specs.View.{view, contents}
 use Rattle.heap.proofs.Accepted.{open_tells, open_after, open_answer}

@@ -1,7 +1,8 @@
 use Rattle.std.proofs.Common.{◌≡◌, [], ◌∷◌, length, Ok, Err, refl, ap, ◌∙◌}
 use Rattle.std.proofs.lemmas.Result.{err_from_is_err_and}
 use Rattle.rules.specs.Rules.{tell, counts}
-use Rattle.heap.specs.Answers.{told_why, told_lengths}
+use Rattle.registers.specs.Answers.{told_why}
+use Rattle.heap.specs.Answers.{told_lengths}
 use Rattle.heap.specs.View.{view}
 use Rattle.heap.proofs.Accepted.{open_tells, open_after, open_answer}
 use Rattle.heap.proofs.Framing.{frame_refl}

@@ -1,7 +1,7 @@
 use Rattle.std.proofs.Common.{sym, ap, ◌∙◌, subst}
 use Rattle.rules.specs.Rules.{do_write}
 use Rattle.heap.specs.Answers.{Within}
-use Rattle.heap.specs.State.{with_store}
+use Rattle.registers.specs.State.{with_store}
 use Rattle.heap.specs.View.{view}
 use Rattle.heap.proofs.heap.Heap.write_at.Goals as goal
 

@@ -1,5 +1,5 @@
 use Rattle.std.proofs.Common.{ap, ◌∙◌}
-use Rattle.heap.specs.State.{with_store}
+use Rattle.registers.specs.State.{with_store}
 use Rattle.heap.specs.View.{view}
 use Rattle.heap.proofs.Collections.{view_framed}
 use Rattle.heap.proofs.Parts.{old_written, old_refused}

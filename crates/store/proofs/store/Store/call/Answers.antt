@@ -1,7 +1,7 @@
 use Rattle.std.proofs.Common.{◌≡◌, sym, refl, ap, ◌∙◌, subst, w64, SFits, to_z, of_z, rules}
 use Rattle.std.proofs.lemmas.Int.{to_z-of_z}
 use Rattle.rules.specs.Rules.{write}
-use Rattle.heap.specs.State.{after, answer}
+use Rattle.registers.specs.State.{after, answer}
 use Rattle.heap.specs.View.{view}
 use Rattle.store.specs.Calls.{call_of, Suits}
 use Rattle.store.specs.declared.call.Answer.TheVariants.{Done}

@@ -1,7 +1,7 @@
 use Rattle.std.proofs.Common.{◌≡◌, ap, ◌∙◌, w64, to_z, of_z}
 use Rattle.std.proofs.lemmas.Int.{to_z-of_z}
 use Rattle.rules.specs.Rules.{same}
-use Rattle.heap.specs.State.{after, answer}
+use Rattle.registers.specs.State.{after, answer}
 use Rattle.heap.specs.View.{view}
 use Rattle.store.proofs.store.Store.same.Goals as goal
 

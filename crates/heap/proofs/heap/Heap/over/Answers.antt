@@ -1,9 +1,11 @@
-use Rattle.std.proofs.Common.{◌≡◌, ◌≤◌, map, length, take, sym, refl, ◌∙◌, subst, arith}
+use Rattle.std.proofs.Common.{◌≤◌, map, take, sym, refl, ◌∙◌, subst, arith}
 use Rattle.ring.specs.View.{arcs_of}
+use Rattle.registers.specs.Answers.{told_why}
+use Rattle.registers.specs.State.{sizes_in}
+use Rattle.registers.proofs.Opens.{emptied}
 use Rattle.heap.specs.Meaning.{meaning_of}
-use Rattle.heap.specs.State.{sizes_in}
 use Rattle.heap.proofs.Beginning.{tables_longs, all_free, no_white, new_state, left_rest}
-use Rattle.heap.proofs.heap.Heap.begin.Goals as goal
+use Rattle.heap.proofs.heap.Heap.over.Goals as goal
 
 pub returns : goal.returns
 returns g c =
@@ -13,11 +15,12 @@ returns g c =
     let counts = c.new-2.ensures in
     let long = tables_longs l.slots l.places l.registers t c.requires.long in
     let begun = c.new.ensures.begun (long.next, long.previous, long.stamp) in
-    let size : length c.clear.new.registers ≡ length t.registers.now = omega arith in
+    let table = t.registers.now in
+    let clear = emptied l.registers table c.fill.new.self long.registers c.fill.ensures.len (c.fill.ensures.after (λ y h. h)) in
     record {
       sound = record {
         kept = record {
-          long = (subst (λ n. l.registers ≤ n) (sym size) long.registers, long.nursery, long.slots, long.forward, long.notes);
+          long = (subst (λ n. l.registers ≤ n) (sym clear.size) long.registers, long.nursery, long.slots, long.forward, long.notes);
           fine = c.new.ensures.sound;
           ring_size = begun.slots_are;
           counted = (counts.0, omega (arith, counts.1, all_free l.slots (arcs_of ring) begun.arcs_are), counts.2 ∙ no_white l.slots (arcs_of ring) begun.arcs_are);
@@ -29,13 +32,13 @@ returns g c =
         };
         waiting = counts.3;
       };
-      state = new_state (sizes_in g.T.Kind.count l) (map (meaning_of g.T.Kind) (take l.slots t.slots.now)) _ _ _ c.clear.ensures.cleared begun.arcs_are c.new.ensures.closed;
+      state = new_state (told_why c.args.status) (sizes_in g.T.Kind.count l) (map (meaning_of g.T.Kind) (take l.slots t.slots.now)) _ _ _ clear.front begun.arcs_are c.new.ensures.closed;
       lent = record {
         nursery_same = refl {a = t.nursery.now};
         slots_same = refl {a = t.slots.now};
         forward_same = refl {a = t.forward.now};
         notes_same = refl {a = t.notes.now};
-        registers_rest = record { rest = c.clear.ensures.beyond; size = size };
+        registers_rest = record { rest = clear.rest; size = clear.size };
         next_rest = left_rest _ _ _ begun.next_kept;
         previous_rest = left_rest _ _ _ begun.previous_kept;
         stamp_rest = left_rest _ _ _ begun.stamp_kept;

@@ -1,8 +1,8 @@
 // The calls on registers: each writes or reads words of the register table.
 ghost use Rattle.std.specs.Prelude.{◌≡◌, ◌<◌, true, IfOk, slice_index, slice_set};
 ghost use Rattle.rules.specs.Rules.{load, empty, copy, same, look, done, do_look, with_registers};
-ghost use Rattle.heap.specs.Answers.{seen_values, seen_in_range, told_done, told_flag, told_seen, told_why, register_at, ready_at, open_register};
-ghost use Rattle.heap.specs.State.{after, answer, with_store};
+ghost use Rattle.registers.specs.Answers.{seen_values, seen_in_range, told_done, told_flag, told_seen, told_why, register_at, ready_at, open_register};
+ghost use Rattle.registers.specs.State.{after, answer, with_store};
 ghost use Rattle.heap.specs.View.{view, Sound, Frame};
 
 use crate::heap::Heap;

@@ -1,6 +1,0 @@
-use Rattle.std.proofs.Common.{◌≡◌, take, drop, replicate}
-use Rattle.heap.proofs.heap.opening.clear.Given as goal
-
-abbrev pub invariant-loop-i : goal.invariant-loop-i
-invariant-loop-i l =
-    (take l.i l.registers ≡ replicate l.i 0) × (drop l.n l.registers ≡ drop l.n l.initial.registers)

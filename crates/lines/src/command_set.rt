@@ -1,0 +1,28 @@
+// Sets of commands, each with its text in six columns.
+ghost use Rattle.std.specs.Prelude.{◌≡◌, true};
+ghost use Rattle.lines.specs.CommandSets.{Commands, command_in, are_texts};
+
+// The commands that a sheet has.
+pub trait CommandSet: Copy {
+    ghost commands: { Commands Self };
+
+    // The command with this text, which fills six columns.
+    fn parse(name: &[u8]) -> Option<Self>
+        ensures { result ≡ command_in commands.table name.now };
+
+    // How many of the three fields the command uses; they are the first ones.
+    fn field_count(self) -> usize
+        ensures { result ≡ commands.field_count self };
+
+    // Each text is six printable bytes.
+    ghost texts: { are_texts commands.table ≡ true };
+}
+
+// The command of the first row with this text.
+pub fn command_in<C: Copy>(rows: &[([u8; 6], C)], name: &[u8]) -> Option<C>
+    ensures { result ≡ command_in rows.now name.now }
+{
+    rows.iter()
+        .find(|(text, _)| name == text.as_slice())
+        .map(|(_, command)| *command)
+}
