@@ -1,5 +1,5 @@
 -- Doses: which numbers build one, and what a row means.
-use Rattle.std.specs.Prelude.{ℕ, zero, suc, ◌%◌, cond, List, [], ◌∷◌, ℤ, pos, negsuc, Ok, Err, Result, nat_le}
+use Rattle.std.specs.Prelude.{ℕ, zero, suc, ◌%◌, cond, List, [], ◌∷◌, codes, ℤ, pos, negsuc, Ok, Err, Result, nat_le}
 use Rattle.kinds.specs.declared.dose.Dose.{Dose}
 use Rattle.kinds.specs.declared.dose.Mark.{Mark}
 use Rattle.kinds.specs.declared.dose.Mark.TheVariants.{Dose as Dosed, Flush}
@@ -10,6 +10,18 @@ use Rattle.kinds.specs.declared.fault.StoreFault.TheVariants.{BadDose}
 abbrev pub mark_number : Mark → ℕ
 mark_number Dosed = 0
 mark_number Flush = 1
+
+-- the mark of a number; any other number than 0 and 1 has none
+abbrev pub mark_of : ℤ → Result Mark StoreFault
+mark_of (pos zero) = Ok Dosed
+mark_of (pos (suc zero)) = Ok Flush
+mark_of (pos (suc (suc m))) = Err BadDose
+mark_of (negsuc m) = Err BadDose
+
+-- what is printed for a mark
+abbrev pub mark_name : Mark → List ℕ
+mark_name Dosed = codes "dose"
+mark_name Flush = codes "flush"
 
 -- a row's weight in milligrams: its field modulo 10,000,000
 abbrev pub dose_weight : Dose → ℕ

@@ -1,16 +1,17 @@
 // The dose: one link, and component, weight in milligrams and mark as its plain part.
 ghost use Rattle.std.specs.Prelude.{◌≡◌, ◌%◌, [], ◌∷◌, pos};
-ghost use Rattle.kinds.specs.Doses.{built, dose_weight, mark_number, dose_plain};
+ghost use Rattle.kinds.specs.Doses.{built, dose_weight, mark_number, mark_of, dose_plain};
 ghost use Rattle.std.proofs.Common.{rules};
 
 use crate::fault::StoreFault;
 use crate::kind::Kind;
+use std::fmt;
 
-// What a row is for.
+// What a row is for, numbered as in the plain part.
 #[derive(Clone, Copy, PartialEq, Eq, Debug)]
 pub enum Mark {
-    Dose,
-    Flush,
+    Dose = 0,
+    Flush = 1,
 }
 
 impl Mark {
@@ -18,9 +19,35 @@ impl Mark {
     pub fn number(self) -> u32
         ensures { result ≡ mark_number self }
     {
-        match self {
-            Mark::Dose => 0,
-            Mark::Flush => 1,
+        self as u32
+    }
+}
+
+impl fmt::Display for Mark {
+    ghost use Rattle.std.specs.Prelude.{Some};
+    ghost use Rattle.kinds.specs.Doses.{mark_name};
+
+    ghost output = { λ m. Some (mark_name m) };
+
+    fn fmt<W: fmt::Write>(&self, f: &mut fmt::Formatter<W>) -> fmt::Result {
+        f.write_str(match self {
+            Mark::Dose => "dose",
+            Mark::Flush => "flush",
+        })
+    }
+}
+
+// 0 is a dose, 1 a flush; any other number is no mark.
+impl TryFrom<i64> for Mark {
+    type Error = StoreFault;
+
+    ghost try_from_gives = { λ m r. r ≡ mark_of m };
+
+    fn try_from(m: i64) -> Result<Mark, StoreFault> {
+        match m {
+            0 => Ok(Mark::Dose),
+            1 => Ok(Mark::Flush),
+            _ => Err(StoreFault::BadDose),
         }
     }
 }
@@ -39,19 +66,14 @@ impl Dose {
     pub fn new(component: u16, weight: i64, mark: i64) -> Result<Dose, StoreFault>
         ensures { result ≡ built component weight mark }
     {
-        if weight < 0 || weight > 9_999_999 {
+        if !(0..=9_999_999).contains(&weight) {
             return Err(StoreFault::BadDose);
         }
-        let mark = match mark {
-            0 => Mark::Dose,
-            1 => Mark::Flush,
-            _ => return Err(StoreFault::BadDose),
-        };
         Ok(Dose {
             next: 0,
             component,
             milligrams: weight as u32,
-            mark,
+            mark: Mark::try_from(mark)?,
         })
     }
 

@@ -3,6 +3,8 @@ ghost use Rattle.std.specs.Prelude.{◌≡◌};
 ghost use Rattle.kinds.specs.Faults.{store_refusal};
 ghost use Rattle.kinds.specs.declared.fault.StoreFault.TheVariants.{Word};
 
+use std::error::Error;
+use std::fmt;
 use words::fault::WordFault;
 
 #[derive(Clone, Copy, PartialEq, Eq, Debug)]
@@ -44,7 +46,7 @@ impl From<WordFault> for StoreFault {
 }
 
 impl StoreFault {
-    // The refusal's number.
+    // The refusal's number. A match, since a refusal of the word layer keeps its own.
     pub fn number(self) -> u32
         ensures { result ≡ store_refusal self }
     {
@@ -65,3 +67,30 @@ impl StoreFault {
         }
     }
 }
+
+impl fmt::Display for StoreFault {
+    ghost use Rattle.std.specs.Prelude.{Some};
+    ghost use Rattle.kinds.specs.Faults.{store_refusal_text};
+
+    ghost output = { λ e. Some (store_refusal_text e) };
+
+    fn fmt<W: fmt::Write>(&self, f: &mut fmt::Formatter<W>) -> fmt::Result {
+        match self {
+            StoreFault::SizeOutOfRange => f.write_str("a size is out of range"),
+            StoreFault::TableShort => f.write_str("a table is shorter than its size"),
+            StoreFault::NoSuchRegister => f.write_str("there is no such register"),
+            StoreFault::Word(e) => e.fmt(f),
+            StoreFault::NoSuchLink => f.write_str("there is no such link"),
+            StoreFault::WrongLinkCount => f.write_str("a record has another number of links"),
+            StoreFault::BadDose => f.write_str("the weight or the mark of a dose is out of range"),
+            StoreFault::Closed => f.write_str("the store is closed"),
+            StoreFault::NoRecord => f.write_str("the register holds no record"),
+            StoreFault::NurseryFull => f.write_str("the nursery is full"),
+            StoreFault::NoRoom => f.write_str("too few slots are free"),
+            StoreFault::NotesFull => f.write_str("there is no room for a note"),
+            StoreFault::EndlessChain => f.write_str("the chain of records never ends"),
+        }
+    }
+}
+
+impl Error for StoreFault {}

@@ -18,10 +18,7 @@ pub trait Weighed: Kind {
 
 impl Weighed for Dose {
     fn is_flush(&self) -> bool {
-        match self.mark() {
-            Mark::Dose => false,
-            Mark::Flush => true,
-        }
+        self.mark() == Mark::Flush
     }
 
     fn weight_mg(&self) -> u32 {

@@ -7,7 +7,7 @@ ghost use Rattle.ring.specs.View.{arcs_of, slots_of, is_open_of, Fine, LinkedRin
 ghost use Rattle.ring.specs.Laws.{OneArc};
 
 use crate::arcs::{Colour, Lengths};
-use crate::tables::{clear_stamps, link_next, link_previous};
+use crate::tables::set_each;
 
 mod cycle;
 mod moves;
@@ -43,20 +43,8 @@ impl<'a> Ring<'a> {
         ensures refused { (Long slots next.old previous.old stamp.old → ⊥) → Refused next.old previous.old stamp.old result }
     {
         let n = slots as usize;
-        if next.len() < n || previous.len() < n || stamp.len() < n {
-            return Ring {
-                next,
-                previous,
-                stamp,
-                slots: 0,
-                head: 0,
-                grey: 0,
-                black: 0,
-                epoch: 2,
-                cycle_open: false,
-            };
-        }
-        Ring::begin(next, previous, stamp, slots, 2)
+        let fits = n <= next.len() && n <= previous.len() && n <= stamp.len();
+        Ring::begin(next, previous, stamp, if fits { slots } else { 0 }, 2)
     }
 
     // A ring of free slots that begins in a given epoch.
@@ -75,9 +63,13 @@ impl<'a> Ring<'a> {
         ensures linked { LinkedRing result }
         ensures begun { Begun slots next.old previous.old stamp.old result }
     {
-        link_next(next, slots);
-        link_previous(previous, slots);
-        clear_stamps(stamp, slots);
+        set_each(next, slots, |i, _| if i + 1 == slots { 0 } else { i + 1 });
+        set_each(
+            previous,
+            slots,
+            |i, _| if i == 0 { slots - 1 } else { i - 1 },
+        );
+        set_each(stamp, slots, |_, _| 0);
         Ring {
             next,
             previous,
@@ -156,11 +148,7 @@ impl Ring<'_> {
         requires { Fine self.now }
         ensures { result ≡ marked (arcs_of self.now) q }
     {
-        match self.colour(q) {
-            Some(Colour::Grey) => true,
-            Some(Colour::Black) => true,
-            _ => false,
-        }
+        matches!(self.colour(q), Some(Colour::Grey | Colour::Black))
     }
 
     // Whether a slot is white.
@@ -168,10 +156,7 @@ impl Ring<'_> {
         requires { Fine self.now }
         ensures { result ≡ has q (arcs_of self.now).white }
     {
-        match self.colour(q) {
-            Some(Colour::White) => true,
-            _ => false,
-        }
+        self.colour(q) == Some(Colour::White)
     }
 
     // The slot after a slot, by its link.
@@ -195,30 +180,17 @@ impl Ring<'_> {
         }
     }
 
-    // Whether the first slot of the ring is free; otherwise no slot is.
-    fn head_is_free(&self) -> bool
-        requires { Fine self.now }
-        ensures value { first_of (arcs_of self.now).free ≡ (if result then Some self.now.head else None) }
-        ensures taken { taken_slot (arcs_of self.now) ≡ (if result then Some self.now.head else None) }
-    {
-        if self.slots == 0 {
-            return false;
-        }
-        let h = self.head;
-        self.has_colour(h, Colour::Free)
-    }
-
     // The first free slot, which is the next to be taken.
     pub fn first_free(&self) -> Option<u32>
         requires { Fine self.now }
         ensures value { result ≡ first_of (arcs_of self.now).free }
         ensures taken { result ≡ taken_slot (arcs_of self.now) }
     {
-        if self.head_is_free() {
-            Some(self.head)
-        } else {
-            None
+        if self.slots == 0 {
+            return None;
         }
+        let h = self.head;
+        self.has_colour(h, Colour::Free).then_some(h)
     }
 
     // The last grey slot, which is the next to be scanned.
@@ -231,11 +203,7 @@ impl Ring<'_> {
             return None;
         }
         let x = self.previous[self.black as usize];
-        if self.has_colour(x, Colour::Grey) {
-            Some(x)
-        } else {
-            None
-        }
+        self.has_colour(x, Colour::Grey).then_some(x)
     }
 
     // Whether a slot is grey.
@@ -259,7 +227,7 @@ impl Ring<'_> {
             black: 0,
         };
         let mut x = self.head;
-        for _i in 0..self.slots {
+        for _ in 0..self.slots {
             counted = counted.with(self.stamped_colour(x));
             x = self.next[x as usize];
         }

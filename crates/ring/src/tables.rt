@@ -1,5 +1,5 @@
-// The tables of a ring when it begins, and the stamps when they are renewed.
-ghost use Rattle.std.specs.Prelude.{◌≡◌, ℕ, ◌+◌, ◌-◌, ◌<◌, ◌≤◌, length, drop, if◌then◌else◌, nat_eq, slice_index};
+// The first places of a lent table, each set by a call.
+ghost use Rattle.std.specs.Prelude.{◌≡◌, ℕ, ◌^◌, ◌<◌, ◌≤◌, length, drop, if◌then◌else◌, nat_eq, slice_index};
 
 // x, or n in the place of q.
 pub(crate) fn instead(x: u32, q: u32, n: u32) -> u32
@@ -8,47 +8,14 @@ pub(crate) fn instead(x: u32, q: u32, n: u32) -> u32
     if x == q { n } else { x }
 }
 
-// Each of the first slots is followed by the next one, and the last of them by 0.
-pub(crate) fn link_next(next: &mut [u32], slots: u32)
-    requires { slots ≤ length next.old }
-    ensures linked { (k : ℕ) → k < slots → slice_index next.new k ≡ (if nat_eq (k + 1) slots then 0 else k + 1) }
-    ensures beyond { drop slots next.new ≡ drop slots next.old }
+// Each of the first `slots` places becomes what f says of its index and of what stands there.
+pub(crate) fn set_each<F: Fn(u32, u32) -> u32>(table: &mut [u32], slots: u32, f: F)
+    requires room { slots ≤ length table.old }
+    requires callable { (k x : ℕ) → k < slots → x < 2 ^ 32 → F.pre f k x }
+    ensures set { (k : ℕ) → k < slots → F.post f k (slice_index table.old k) (slice_index table.new k) }
+    ensures beyond { drop slots table.new ≡ drop slots table.old }
 {
-    for i in 0..slots {
-        next[i as usize] = instead(i + 1, slots, 0);
-    }
-}
-
-// Each of the first slots but 0 follows the one before it, and 0 the last of them.
-pub(crate) fn link_previous(previous: &mut [u32], slots: u32)
-    requires { slots ≤ length previous.old }
-    ensures linked { (k : ℕ) → k < slots → slice_index previous.new k ≡ (if nat_eq k 0 then slots - 1 else k - 1) }
-    ensures beyond { drop slots previous.new ≡ drop slots previous.old }
-{
-    for i in 0..slots {
-        previous[i as usize] = if i == 0 { slots - 1 } else { i - 1 };
-    }
-}
-
-// The first stamps become 0.
-pub(crate) fn clear_stamps(stamp: &mut [u32], slots: u32)
-    requires { slots ≤ length stamp.old }
-    ensures cleared { (k : ℕ) → k < slots → slice_index stamp.new k ≡ 0 }
-    ensures beyond { drop slots stamp.new ≡ drop slots stamp.old }
-{
-    for i in 0..slots {
-        stamp[i as usize] = 0;
-    }
-}
-
-// Of the first stamps, those that are e become 2, and the others 0.
-pub(crate) fn renew_stamps(stamp: &mut [u32], slots: u32, e: u32)
-    requires { slots ≤ length stamp.old }
-    ensures renewed { (k : ℕ) → k < slots → slice_index stamp.new k ≡ (if nat_eq (slice_index stamp.old k) e then 2 else 0) }
-    ensures beyond { drop slots stamp.new ≡ drop slots stamp.old }
-{
-    for i in 0..slots {
-        let s = stamp[i as usize];
-        stamp[i as usize] = if s == e { 2 } else { 0 };
+    for (i, x) in table[..slots as usize].iter_mut().enumerate() {
+        *x = f(i as u32, *x);
     }
 }

@@ -1,34 +1,30 @@
 -- The figures for planning: one division gives the steps of a cycle, and checked sums the slots.
-use Rattle.std.proofs.Common.{◌≡◌, ℕ, zero, suc, ◌+◌, ◌-◌, ◌*◌, ◌/◌, ◌^◌, ◌<◌, ◌≤◌, Bool, true, false, cond, eqb, ltb, ◌⊎◌, Some, None, Option, sym, refl, ap, ◌∙◌, subst, inl, inr, arith}
-use native.Mathlib.Nat.{zero-div, add-div_right, div-eq_of_lt}
+use Rattle.std.proofs.Common.{◌≡◌, ℕ, zero, suc, ◌+◌, ◌-◌, ◌*◌, ◌/◌, ◌%◌, ◌^◌, ◌<◌, min, ◌≤◌, Bool, true, false, cond, eqb, ltb, ◌⊎◌, Some, None, Option, sym, refl, ap, ◌∙◌, subst, inl, inr, arith}
+use native.Mathlib.Nat.{add-mul-div_left, div-eq_of_lt}
 use Rattle.std.specs.Option.{SomeIff}
 use Rattle.rules.specs.Promise.{cycle_steps, slots_for}
 use Rattle.rules.specs.Planning.{cycle_steps_of, slots_needed}
-use Rattle.std.proofs.lemmas.Bool.{cases_lt, ne_eqb, lt-ltb, le-ltb}
+use Rattle.std.proofs.lemmas.Bool.{cases_lt, lt-ltb, le-ltb}
 
--- n / k rounded up, and at least 1
-pub steps_by_division : (n k : ℕ) → 0 < k → (n - 1) / k + 1 ≡ cycle_steps n k
-steps_by_division zero k l = omega (arith, ap (λ x. x / k) none_left, zero-div k, div-eq_of_lt below)
+-- rounding up by the remainder, and by adding what one step lacks of k
+pub div_ceil_is_divide_up : (n k : ℕ) → 0 < k → n / k + min 1 (n % k) ≡ (n + (k - 1)) / k
+div_ceil_is_divide_up n k l = go (n % k) refl
   where
-    below : 0 + (k - 1) < k
-    below = omega arith
+    go : (r : ℕ) → n % k ≡ r → n / k + min 1 r ≡ (n + (k - 1)) / k
+    go zero e = omega (arith, ap (λ x. x / k) shifted, add-mul-div_left (k - 1) (n / k) l, div-eq_of_lt below)
+      where
+        below : k - 1 < k
+        below = omega arith
 
-    none_left : 0 - 1 ≡ 0
-    none_left = refl
-steps_by_division (suc n) k l = omega (arith, ap (λ x. x / k) less, ap (λ x. x / k) shifted, add-div_right n l)
-  where
-    less : suc n - 1 ≡ n
-    less = omega arith
+        shifted : n + (k - 1) ≡ (k - 1) + k * (n / k)
+        shifted = omega arith
+    go (suc r) e = omega (arith, ap (λ x. x / k) shifted, add-mul-div_left r (n / k + 1) l, div-eq_of_lt below)
+      where
+        below : r < k
+        below = omega arith
 
-    shifted : suc n + (k - 1) ≡ n + k
-    shifted = omega arith
-
-pub steps_value : (n k : ℕ) → (k ≡ 0 → ⊥) → Some ((n - 1) / k + 1) ≡ cycle_steps_of n k
-steps_value n k f = rw (ne_eqb k 0 f) (ap Some (steps_by_division n k (above (cases_lt 0 k))))
-  where
-    above : (0 < k) ⊎ (k ≤ 0) → 0 < k
-    above (inl l) = l
-    above (inr l) = absurd (f (omega arith))
+        shifted : n + (k - 1) ≡ r + k * (n / k + 1)
+        shifted = omega arith
 
 -- without scans there are no steps and no slots
 pub no_steps : (L Y K : ℕ) → None ≡ cycle_steps_of L K → None ≡ slots_needed L Y K

@@ -1,6 +1,6 @@
 // Words and their meanings.
-ghost use Rattle.std.specs.Prelude.{◌≡◌};
-ghost use Rattle.words.specs.Words.{nursery_word_of, slot_word_of, number_word_of, meaning, encoded, place_meant, place_of, word_number};
+ghost use Rattle.std.specs.Prelude.{◌≡◌, ◌+◌, ◌*◌, ◌<◌};
+ghost use Rattle.words.specs.Words.{below_2^30, nursery_word_of, slot_word_of, number_word_of, meaning, encoded, place_meant, place_of, word_number};
 ghost use Rattle.words.specs.Laws.{ReadBack, WrittenBack, WordsDiffer, OneMeaning, AsStated};
 ghost use Rattle.words.specs.Cases.{WordCases};
 
@@ -16,63 +16,68 @@ pub enum Word {
     Slot(u32),
 }
 
+// The least number that has a word.
+const LEAST: i64 = -536_870_912;
+
+// The greatest number that has a word.
+const GREATEST: i64 = 536_870_911;
+
+// A word holds its number modulo this.
+const MODULUS: i64 = 1_073_741_824;
+
+// The remainder modulo 4 of a number's word.
+const NUMBER: u32 = 1;
+
+// The remainder modulo 4 of a nursery place's word.
+const NURSERY: u32 = 2;
+
+// The remainder modulo 4 of an old slot's word.
+const SLOT: u32 = 3;
+
+// The word 4n + tag; from 2^30 on a number has none.
+fn tagged(n: u32, tag: u32) -> Option<u32>
+    requires { tag < 4 }
+    ensures { result ≡ below_2^30 n (4 * n + tag) }
+{
+    Some(n.checked_mul(4)? + tag)
+}
+
 // The word of a number, or the fault where the number is outside the word range.
 pub fn number_word(v: i64) -> Result<u32, WordFault>
     ensures { result ≡ number_word_of v }
 {
-    if v < -536_870_912 || v > 536_870_911 {
+    if !(LEAST..=GREATEST).contains(&v) {
         return Err(WordFault::NumberOutOfRange);
     }
-    if v >= 0 {
-        Ok(4 * (v as u32) + 1)
-    } else {
-        Ok(4 * ((v + 1_073_741_824) as u32) + 1)
-    }
+    Ok(4 * (v.rem_euclid(MODULUS) as u32) + NUMBER)
 }
 
 // The word of a nursery place; a place from 2^30 on has none.
 pub fn nursery_word(p: u32) -> Option<u32>
     ensures { result ≡ nursery_word_of p }
 {
-    if p < 1_073_741_824 {
-        Some(4 * p + 2)
-    } else {
-        None
-    }
+    tagged(p, NURSERY)
 }
 
 // The word of an old slot; a slot from 2^30 on has none.
 pub fn slot_word(q: u32) -> Option<u32>
     ensures { result ≡ slot_word_of q }
 {
-    if q < 1_073_741_824 {
-        Some(4 * q + 3)
-    } else {
-        None
-    }
+    tagged(q, SLOT)
 }
 
 // The number that a word with remainder 1 means.
 fn number_in(w: u32) -> i32
     ensures { result ≡ word_number w }
 {
-    let n = (w / 4) as i32;
-    if n < 536_870_912 {
-        n
-    } else {
-        n - 1_073_741_824
-    }
+    w.cast_signed() >> 2
 }
 
 // The place that a word leads to, if it is a record's.
 pub fn place_of(w: u32) -> Option<Place>
     ensures { result ≡ place_of w }
 {
-    match w % 4 {
-        2 => Some(Place::Young(w / 4)),
-        3 => Some(Place::Old(w / 4)),
-        _ => None,
-    }
+    Word::parse(w)?.place()
 }
 
 impl Word {
@@ -83,22 +88,10 @@ impl Word {
         ensures one_meaning { OneMeaning }
     {
         match w % 4 {
-            1 => Some(Word::Number(number_in(w))),
-            2 => Some(Word::Nursery(w / 4)),
-            3 => Some(Word::Slot(w / 4)),
-            _ => { if w == 0 { Some(Word::Nothing) } else { None } }
-        }
-    }
-
-    // The word of this meaning, if there is one.
-    fn bits(self) -> Option<u32>
-        ensures { result ≡ encoded self }
-    {
-        match self {
-            Word::Nothing => Some(0),
-            Word::Number(v) => number_word(v as i64).ok(),
-            Word::Nursery(p) => nursery_word(p),
-            Word::Slot(q) => slot_word(q),
+            NUMBER => Some(Word::Number(number_in(w))),
+            NURSERY => Some(Word::Nursery(w / 4)),
+            SLOT => Some(Word::Slot(w / 4)),
+            _ => (w == 0).then_some(Word::Nothing),
         }
     }
 
@@ -110,7 +103,12 @@ impl Word {
         ensures words_differ { WordsDiffer }
         ensures cases { WordCases }
     {
-        self.bits()
+        match self {
+            Word::Nothing => Some(0),
+            Word::Number(v) => number_word(i64::from(v)).ok(),
+            Word::Nursery(p) => nursery_word(p),
+            Word::Slot(q) => slot_word(q),
+        }
     }
 
     // The place of the record that this meaning leads to, if it is a record's.

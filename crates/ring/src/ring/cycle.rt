@@ -4,7 +4,7 @@ ghost use Rattle.ring.specs.Calls.{is_none, opened_arcs, may_close, closed_arcs,
 ghost use Rattle.ring.specs.View.{arcs_of, is_open_of, Fine, Leaves};
 
 use super::Ring;
-use crate::tables::renew_stamps;
+use crate::tables::set_each;
 
 impl Ring<'_> {
     // Stamps and an epoch that leave room, for the same arcs.
@@ -15,9 +15,8 @@ impl Ring<'_> {
         ensures left { Leaves self.old self.new (arcs_of self.old) false }
         ensures reset { self.new.epoch ≡ 2 }
     {
-        let n = self.slots;
         let e = self.epoch;
-        renew_stamps(self.stamp, n, e);
+        set_each(self.stamp, self.slots, |_, s| if s == e { 2 } else { 0 });
         self.epoch = 2;
     }
 

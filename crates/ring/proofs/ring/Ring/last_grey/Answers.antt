@@ -1,9 +1,8 @@
-use Rattle.std.proofs.Common.{is_some, sym, ap, ◌∙◌, inl, inr, arith}
-use Rattle.std.proofs.lemmas.Bool.{eqb-true, eqb-false}
+use Rattle.std.proofs.Common.{is_some, ap, ◌∙◌, inl, arith}
 use Rattle.ring.specs.Sound.{code, arcs}
 use Rattle.ring.specs.View.{tables, arcs_of, TablesHold}
 use Rattle.ring.proofs.Bounds.{in_prev, black_in, links_in}
-use Rattle.ring.proofs.Scan.{last_grey_some, last_grey_none, scanned_some}
+use Rattle.ring.proofs.Scan.{then_some_cond, last_grey_by, last_grey_none, scanned_some}
 use Rattle.ring.proofs.ring.Ring.last_grey.Goals as goal
 
 pub returns-then-self-eq0 : goal.returns-then-self-eq0
@@ -25,16 +24,9 @@ has_colour-requires c =
     let t = tables c.args.self.now in
     record { sound = c.requires; slot = (links_in t c.requires t.black (black_in t c.requires c.if-self-eq0.false)).1 }
 
-pub returns-then-has_colour : goal.returns-then-has_colour
+pub returns : goal.returns
 unfolding arcs_of TablesHold code
-returns-then-has_colour c =
+returns c =
     let t = tables c.args.self.now in
-    let e = last_grey_some t c.requires (omega arith) (eqb-true _ _ (sym c.has_colour.ensures ∙ c.if-has_colour.true)) in
-    record { value = e; some = ap is_some e ∙ scanned_some (arcs t) }
-
-pub returns-else-has_colour : goal.returns-else-has_colour
-unfolding arcs_of TablesHold code
-returns-else-has_colour c =
-    let t = tables c.args.self.now in
-    let e = last_grey_none t c.requires (inr (omega arith, eqb-false _ _ (sym c.has_colour.ensures ∙ c.if-has_colour.false))) in
+    let e = c.then_some.ensures ∙ then_some_cond _ _ ∙ last_grey_by t c.requires (omega arith) c.has_colour.result c.has_colour.ensures in
     record { value = e; some = ap is_some e ∙ scanned_some (arcs t) }

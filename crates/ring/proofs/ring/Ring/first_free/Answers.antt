@@ -3,14 +3,15 @@ use Rattle.ring.specs.Sound.{code, arcs}
 use Rattle.ring.specs.View.{tables, arcs_of, TablesHold}
 use Rattle.ring.proofs.Bounds.{head_in}
 use Rattle.ring.proofs.Steps.{head_some, head_none, taken_first}
-use Rattle.ring.proofs.ring.Ring.head_is_free.Goals as goal
+use Rattle.ring.proofs.Scan.{then_some_cond}
+use Rattle.ring.proofs.ring.Ring.first_free.Goals as goal
 
 pub returns-then-self-eq0 : goal.returns-then-self-eq0
 unfolding arcs_of TablesHold
 returns-then-self-eq0 c =
     let t = tables c.args.self.now in
-    let e = head_none t c.requires c.if-self-eq0.true in
-    record { value = e; taken = taken_first (arcs t) ∙ e }
+    let e = sym (head_none t c.requires c.if-self-eq0.true) in
+    record { value = e; taken = e ∙ sym (taken_first (arcs t)) }
 
 pub has_colour-requires : goal.has_colour-requires
 unfolding TablesHold
@@ -20,5 +21,5 @@ pub returns : goal.returns
 unfolding arcs_of TablesHold code
 returns c =
     let t = tables c.args.self.now in
-    let e = head_some t c.requires (omega arith) ∙ ap (λ b. cond b (Some t.head) None) (sym c.has_colour.ensures) in
-    record { value = e; taken = taken_first (arcs t) ∙ e }
+    let e = c.then_some.ensures ∙ (then_some_cond _ _ ∙ (ap (λ b. cond b (Some t.head) None) c.has_colour.ensures ∙ sym (head_some t c.requires (omega arith)))) in
+    record { value = e; taken = e ∙ sym (taken_first (arcs t)) }
