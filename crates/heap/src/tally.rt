@@ -26,7 +26,7 @@ impl Tally {
         }
         Tally {
             flushes: self.flushes + 1,
-            weight: self.weight + row.weight_mg() as u64,
+            weight: self.weight + u64::from(row.weight_mg()),
         }
     }
 }

@@ -8,6 +8,7 @@ ghost use Rattle.registers.specs.View.{view, Sound, Beyond};
 use crate::heap::Heap;
 use crate::seen::Seen;
 use crate::sizes::Sizes;
+use crate::table::RegisterTable;
 use kinds::barrier::Barrier;
 use kinds::fault::StoreFault;
 

@@ -11,6 +11,7 @@ use crate::stepped::Stepped;
 use kinds::barrier::Barrier;
 use kinds::fault::StoreFault;
 use kinds::kind::Kind;
+use registers::table::RegisterTable;
 
 impl<T: Kind, B: Barrier> Heap<'_, T, B> {
     // A step: the nursery is emptied, a cycle opens if none is open, slots are scanned, and it closes if none is grey.

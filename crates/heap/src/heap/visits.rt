@@ -1,11 +1,11 @@
 // Emptying the nursery: registers, noted records and copied records are visited, and what they lead to is evacuated.
 ghost use Rattle.std.specs.Prelude.{◌≡◌, ◌<◌, false, length};
-ghost use Rattle.rules.specs.Rules.{link_at, visit_register, visit_registers, visit_link, visit_links, visit_noted, visit_copied, rescanning, empty_nursery};
+ghost use Rattle.rules.specs.Rules.{visit_register, visit_registers, visit_link, visit_links, visit_noted, visit_copied, rescanning, empty_nursery};
 ghost use Rattle.heap.specs.Evacuating.{Stage, shade_visited};
 ghost use Rattle.heap.specs.View.{contents, evacuation, sizes_of_heap, Sound, Evacuating, Frame};
 
 use crate::heap::Heap;
-use crate::records::{link_in, set_link_in};
+use crate::records::set_link_in;
 use kinds::barrier::Barrier;
 use kinds::kind::Kind;
 
@@ -46,15 +46,6 @@ impl<T: Kind, B: Barrier> Heap<'_, T, B> {
         }
     }
 
-    // Link k of slot q.
-    fn slot_link(&self, q: u32, k: usize) -> u32
-        requires sound { Evacuating self.now }
-        requires within { q < self.now.limits.slots }
-        ensures { result ≡ link_at (contents T.Kind self.now).slots q k }
-    {
-        link_in(self.slots, q as usize, k)
-    }
-
     // Visits link k of slot q: its word is replaced by that of the evacuated record.
     fn visit_link(&mut self, q: u32, k: usize, rescan: bool)
         requires sound { Evacuating self.old }
@@ -62,7 +53,7 @@ impl<T: Kind, B: Barrier> Heap<'_, T, B> {
         ensures stage { Stage self.old self.new }
         ensures state { evacuation T.Kind self.new ≡ visit_link rescan q k (evacuation T.Kind self.old) }
     {
-        let w = self.slot_link(q, k);
+        let w = self.link_of(q, k);
         let v = self.evacuate(w);
         set_link_in(self.slots, q as usize, k, v);
         self.rescan_word(rescan, v);
@@ -124,7 +115,7 @@ impl<T: Kind, B: Barrier> Heap<'_, T, B> {
         self.visit_copied(rescan);
         self.used = 0;
         self.noted = 0;
-        self.counts = self.counts.with_empty_nursery();
+        self.counts.count_emptied();
         self.copied
     }
 }
