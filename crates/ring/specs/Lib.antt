@@ -3,4 +3,5 @@ pub mod Calls
 pub mod Count
 pub mod Sound
 pub mod View
+pub mod Inside
 pub mod Laws

@@ -8,6 +8,7 @@ ghost use Rattle.ring.specs.Laws.{OneArc};
 
 use crate::arcs::{Colour, Lengths};
 use crate::tables::set_each;
+use std::marker::Model;
 
 mod cycle;
 mod moves;
@@ -26,6 +27,20 @@ pub struct Ring<'a> {
     black: u32,
     epoch: u32,
     cycle_open: bool,
+}
+
+// A caller sees the tables and the numbers. The tables hold the arcs of the ring.
+impl<'a> Model for Ring<'a> {
+    ghost use Rattle.ring.specs.Sound.{Tables};
+    ghost use Rattle.ring.specs.View.{Fine};
+
+    ghost Value = { Tables };
+
+    ghost use Rattle.ring.specs.Inside.{tables};
+
+    ghost view = { tables };
+
+    ghost invariant = { λ r. Fine (tables r) };
 }
 
 impl<'a> Ring<'a> {
@@ -101,9 +116,8 @@ impl Ring<'_> {
 
     // The colour of a slot, by its stamp.
     fn stamped_colour(&self, x: u32) -> Colour
-        requires sound { Fine self.now }
         requires slot { x < slots_of self.now }
-        ensures stamp { result ≡ stamp_colour (is_open_of self.now) self.now.epoch (slice_index self.now.stamp.now x) }
+        ensures stamp { result ≡ stamp_colour (is_open_of self.now) self.now.epoch (slice_index self.now.stamp x) }
         ensures value { Some result ≡ colour_in x (arcs_of self.now) }
         ensures one { OneArc (slots_of self.now) x (arcs_of self.now) (Some result) }
     {
@@ -123,16 +137,15 @@ impl Ring<'_> {
 
     // Whether a slot has a colour.
     fn has_colour(&self, x: u32, c: Colour) -> bool
-        requires sound { Fine self.now }
         requires slot { x < slots_of self.now }
-        ensures { result ≡ (code_at (is_open_of self.now) self.now.epoch self.now.stamp.now x == code c) }
+        ensures { result ≡ (code_at (is_open_of self.now) self.now.epoch self.now.stamp x == code c) }
     {
         self.stamped_colour(x) == c
     }
 
     // The colour of a slot; a number that is no slot has none.
     pub fn colour(&self, q: u32) -> Option<Colour>
-        requires { Fine self.now }
+        ensures sound { Fine self.now }
         ensures value { result ≡ colour_in q (arcs_of self.now) }
         ensures one { OneArc (slots_of self.now) q (arcs_of self.now) result }
     {
@@ -145,7 +158,6 @@ impl Ring<'_> {
 
     // Whether a slot is grey or black.
     pub fn is_marked(&self, q: u32) -> bool
-        requires { Fine self.now }
         ensures { result ≡ marked (arcs_of self.now) q }
     {
         matches!(self.colour(q), Some(Colour::Grey | Colour::Black))
@@ -153,15 +165,14 @@ impl Ring<'_> {
 
     // Whether a slot is white.
     fn is_white(&self, q: u32) -> bool
-        requires { Fine self.now }
-        ensures { result ≡ has q (arcs_of self.now).white }
+        ensures sound { Fine self.now }
+        ensures value { result ≡ has q (arcs_of self.now).white }
     {
         self.colour(q) == Some(Colour::White)
     }
 
     // The slot after a slot, by its link.
     fn linked_next(&self, q: u32) -> u32
-        requires sound { Fine self.now }
         requires slot { q < slots_of self.now }
         ensures { Some result ≡ next_around q (arcs_of self.now) }
     {
@@ -170,7 +181,6 @@ impl Ring<'_> {
 
     // The slot after q along the ring; a number that is no slot has none.
     pub fn next_slot(&self, q: u32) -> Option<u32>
-        requires { Fine self.now }
         ensures { result ≡ next_around q (arcs_of self.now) }
     {
         if q < self.slots {
@@ -182,7 +192,7 @@ impl Ring<'_> {
 
     // The first free slot, which is the next to be taken.
     pub fn first_free(&self) -> Option<u32>
-        requires { Fine self.now }
+        ensures sound { Fine self.now }
         ensures value { result ≡ first_of (arcs_of self.now).free }
         ensures taken { result ≡ taken_slot (arcs_of self.now) }
     {
@@ -195,7 +205,7 @@ impl Ring<'_> {
 
     // The last grey slot, which is the next to be scanned.
     fn last_grey(&self) -> Option<u32>
-        requires { Fine self.now }
+        ensures sound { Fine self.now }
         ensures value { result ≡ scanned_slot (arcs_of self.now) }
         ensures some { is_some result ≡ not (is_none (arcs_of self.now).grey) }
     {
@@ -208,7 +218,6 @@ impl Ring<'_> {
 
     // Whether a slot is grey.
     pub fn has_grey(&self) -> bool
-        requires { Fine self.now }
         ensures { result ≡ not (is_none (arcs_of self.now).grey) }
     {
         self.last_grey().is_some()
@@ -216,7 +225,6 @@ impl Ring<'_> {
 
     // The length of each arc, counted along the ring.
     pub fn lengths(&self) -> Lengths
-        requires { Fine self.now }
         ensures value { result ≡ lengths_of (arcs_of self.now) }
         ensures sum { result.free + result.white + result.grey + result.black ≡ slots_of self.now }
     {

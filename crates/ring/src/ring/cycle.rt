@@ -9,7 +9,6 @@ use crate::tables::set_each;
 impl Ring<'_> {
     // Stamps and an epoch that leave room, for the same arcs.
     fn renew(&mut self)
-        requires sound { Fine self.old }
         requires shut { is_open_of self.old ≡ false }
         ensures sound { Fine self.new }
         ensures left { Leaves self.old self.new (arcs_of self.old) false }
@@ -22,7 +21,6 @@ impl Ring<'_> {
 
     // Room for one more epoch, for the same arcs.
     fn make_room(&mut self)
-        requires sound { Fine self.old }
         requires shut { is_open_of self.old ≡ false }
         ensures sound { Fine self.new }
         ensures left { Leaves self.old self.new (arcs_of self.old) false }
@@ -35,7 +33,6 @@ impl Ring<'_> {
 
     // The black arc becomes the white one and a cycle is open.
     fn start_cycle(&mut self)
-        requires sound { Fine self.old }
         requires shut { is_open_of self.old ≡ false }
         ensures sound { Fine self.new }
         ensures left { Leaves self.old self.new (opened_arcs (is_open_of self.old) (arcs_of self.old)) true }
@@ -50,7 +47,6 @@ impl Ring<'_> {
     // The black arc becomes the white one and a cycle is open; nothing changes while one is open. Says whether one was
     // opened.
     pub fn open_cycle(&mut self) -> bool
-        requires { Fine self.old }
         ensures sound { Fine self.new }
         ensures answer { result ≡ not (is_open_of self.old) }
         ensures left { Leaves self.old self.new (opened_arcs (is_open_of self.old) (arcs_of self.old)) true }
@@ -64,7 +60,6 @@ impl Ring<'_> {
 
     // The white arc joins the end of the free one and the cycle is closed.
     fn end_cycle(&mut self)
-        requires sound { Fine self.old }
         requires live { is_open_of self.old ≡ true }
         requires scanned { not (is_none (arcs_of self.old).grey) ≡ false }
         ensures sound { Fine self.new }
@@ -77,7 +72,6 @@ impl Ring<'_> {
     // The white arc joins the end of the free one and the cycle is closed; nothing changes unless a cycle is open and
     // no slot is grey. Says whether it was closed.
     pub fn close_cycle(&mut self) -> bool
-        requires { Fine self.old }
         ensures sound { Fine self.new }
         ensures answer { result ≡ may_close (is_open_of self.old) (arcs_of self.old) }
         ensures left { Leaves self.old self.new (closed_arcs (is_open_of self.old) (arcs_of self.old)) (still_open (is_open_of self.old) (arcs_of self.old)) }

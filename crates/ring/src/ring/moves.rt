@@ -11,7 +11,6 @@ use crate::tables::instead;
 impl Ring<'_> {
     // The first free slot h becomes the last black one: the ring begins at the slot after it.
     fn blacken_first(&mut self, h: u32)
-        requires sound { Fine self.old }
         requires first { Some h ≡ taken_slot (arcs_of self.old) }
         ensures sound { Fine self.new }
         ensures left { Leaves self.old self.new (taken_arcs (arcs_of self.old)) (is_open_of self.old) }
@@ -22,7 +21,6 @@ impl Ring<'_> {
 
     // The first free slot becomes the last black one.
     pub fn take(&mut self) -> Option<u32>
-        requires { Fine self.old }
         ensures sound { Fine self.new }
         ensures answer { result ≡ taken_slot (arcs_of self.old) }
         ensures left { Leaves self.old self.new (taken_arcs (arcs_of self.old)) (is_open_of self.old) }
@@ -34,7 +32,6 @@ impl Ring<'_> {
 
     // The last grey slot x becomes the first black one: the black arc begins at it.
     fn blacken_last(&mut self, x: u32)
-        requires sound { Fine self.old }
         requires last { Some x ≡ scanned_slot (arcs_of self.old) }
         ensures sound { Fine self.new }
         ensures left { Leaves self.old self.new (scanned_arcs (arcs_of self.old)) (is_open_of self.old) }
@@ -45,7 +42,6 @@ impl Ring<'_> {
 
     // The last grey slot becomes the first black one.
     pub fn scan(&mut self) -> Option<u32>
-        requires { Fine self.old }
         ensures sound { Fine self.new }
         ensures answer { result ≡ scanned_slot (arcs_of self.old) }
         ensures left { Leaves self.old self.new (scanned_arcs (arcs_of self.old)) (is_open_of self.old) }
@@ -58,7 +54,6 @@ impl Ring<'_> {
     // The white slot q leaves its spot and becomes the first grey one. The last white slot only moves the start of the
     // grey arc; any other is linked in behind the last white one, whose next slot is read once q is out of the ring.
     fn make_grey(&mut self, q: u32)
-        requires sound { Fine self.old }
         requires white { true ≡ has q (arcs_of self.old).white }
         ensures sound { Fine self.new }
         ensures left { Leaves self.old self.new (shade_slot q (arcs_of self.old)) (is_open_of self.old) }
@@ -88,7 +83,6 @@ impl Ring<'_> {
     // The white slot q leaves its spot and becomes the first grey one; any other number is passed over. Says whether a
     // slot moved.
     pub fn shade(&mut self, q: u32) -> bool
-        requires { Fine self.old }
         ensures sound { Fine self.new }
         ensures answer { result ≡ has q (arcs_of self.old).white }
         ensures left { Leaves self.old self.new (shade_slot q (arcs_of self.old)) (is_open_of self.old) }

@@ -1,34 +1,33 @@
 use Rattle.std.proofs.Common.{refl}
-use Rattle.ring.specs.View.{tables, arcs_of, TablesHold}
-use Rattle.ring.proofs.Around.{tables_linked}
+use Rattle.ring.specs.Inside.{tables}
+use Rattle.ring.specs.View.{arcs_of, TablesHold}
 use Rattle.ring.proofs.Bounds.{in_stamp}
-use Rattle.ring.proofs.Frame.{same_kept, set_kept}
+use Rattle.ring.proofs.Frame.{same_kept, set_kept, left_as}
 use Rattle.ring.proofs.Scan.{scanned_at, last_grey_in, scan_done}
 use Rattle.ring.proofs.ring.Ring.blacken_last.Goals as goal
 
-pub bounds-self-x : goal.bounds-self-x
+pub bounds-self-inside-x : goal.bounds-self-inside-x
 unfolding arcs_of TablesHold
-bounds-self-x c =
-    let t = tables c.args.self.now in
-    in_stamp t c.requires.sound c.args.x (last_grey_in t c.requires.sound c.args.x c.requires.last)
+bounds-self-inside-x c =
+    let t = tables c.self.inside in
+    in_stamp t c.self.invariant c.args.x (last_grey_in t c.self.invariant c.args.x (rw (← c.self.view_is) at c.requires).last)
+
+pub invariant_of-self : goal.invariant_of-self
+unfolding arcs_of TablesHold
+invariant_of-self c = (scan_done (tables c.self.inside) c.self.invariant c.args.x (rw (← c.self.view_is) at c.requires).last).0
 
 pub returns : goal.returns
 unfolding arcs_of TablesHold
 returns c =
-    let t = tables c.args.self.now in
+    let t = tables c.self.inside in
     let x = c.args.x in
-    let d = scan_done t c.requires.sound x c.requires.last in
-    record {
+    let last = (rw (← c.self.view_is) at c.requires).last in
+    let d = scan_done t c.self.invariant x last in
+    rw (← c.self.view_is) (record {
       sound = d.0;
-      left = record {
-        arcs_are = d.1;
-        open_is = refl;
-        slots_kept = refl;
-        linked = tables_linked (scanned_at t x) d.0;
-        beyond = record {
-          next_kept = same_kept t.slots t.next;
-          previous_kept = same_kept t.slots t.prev;
-          stamp_kept = set_kept t.slots t.stamp t.stamp x t.epoch (last_grey_in t c.requires.sound x c.requires.last) (same_kept t.slots t.stamp);
-        };
-      };
-    }
+      left = left_as t (scanned_at t x) _ d.0 d.1 refl (record {
+        next_kept = same_kept t.slots t.next;
+        previous_kept = same_kept t.slots t.prev;
+        stamp_kept = set_kept t.slots t.stamp t.stamp x t.epoch (last_grey_in t c.self.invariant x last) (same_kept t.slots t.stamp);
+      });
+    })

@@ -2,12 +2,12 @@ use Rattle.std.proofs.Common.{ℕ, ◌+◌, ◌<◌, get_or, sym, refl, subst, a
 use Rattle.std.proofs.lemmas.List.{length-set}
 use Rattle.ring.specs.Laws.{KeepsOrder}
 use Rattle.ring.specs.Sound.{Tables, arcs}
-use Rattle.ring.specs.View.{tables, arcs_of, TablesHold}
-use Rattle.ring.proofs.Around.{tables_linked}
+use Rattle.ring.specs.Inside.{tables}
+use Rattle.ring.specs.View.{arcs_of, TablesHold}
 use Rattle.ring.proofs.Bounds.{in_stamp, in_prev, in_next, grey_in, links_in, grey_fits, set_in}
 use Rattle.ring.proofs.Carry.{nx1}
 use Rattle.ring.proofs.Held.{Sound}
-use Rattle.ring.proofs.Frame.{same_kept, set_kept}
+use Rattle.ring.proofs.Frame.{same_kept, set_kept, left_as}
 use Rattle.ring.proofs.Order.{keeps_order}
 use Rattle.ring.proofs.Shade.{shaded_near, carried, white_slot, shade_done_near, shade_done_far}
 use Rattle.ring.proofs.ring.Ring.make_grey.Goals as goal
@@ -22,107 +22,112 @@ after_unlinked t s q z l lz =
     let li = links_in t s q l in
     set_in t.next t.slots (get_or t.prev q 0) (get_or t.next q 0) z (in_next t s (get_or t.prev q 0) li.1) li.0 (links_in t s z lz).0
 
-pub bounds-self-self : goal.bounds-self-self
+pub bounds-self-inside-self-inside : goal.bounds-self-inside-self-inside
 unfolding arcs_of TablesHold
-bounds-self-self c =
-    let t = tables c.args.self.now in
-    in_prev t c.requires.sound t.grey (grey_in t c.requires.sound (λ e. omega (arith, white_slot t c.requires.sound c.args.q (sym c.requires.white))))
+bounds-self-inside-self-inside c =
+    let t = tables c.self.inside in
+    in_prev t c.self.invariant t.grey (grey_in t c.self.invariant (λ e. omega (arith, white_slot t c.self.invariant c.args.q (sym (rw (← c.self.view_is) at c.requires).white))))
 
 pub overflow_add-self : goal.overflow_add-self
 unfolding arcs_of TablesHold
-overflow_add-self c = grey_fits (tables c.args.self.now) c.requires.sound
+overflow_add-self c = grey_fits (tables c.self.inside) c.self.invariant
 
-pub bounds-self-q : goal.bounds-self-q
+pub bounds-self-inside-q : goal.bounds-self-inside-q
 unfolding arcs_of TablesHold
-bounds-self-q c = in_stamp (tables c.args.self.now) c.requires.sound c.args.q (white_slot (tables c.args.self.now) c.requires.sound c.args.q (sym c.requires.white))
+bounds-self-inside-q c = in_stamp (tables c.self.inside) c.self.invariant c.args.q (white_slot (tables c.self.inside) c.self.invariant c.args.q (sym (rw (← c.self.view_is) at c.requires).white))
+
+pub invariant_of-self : goal.invariant_of-self
+unfolding arcs_of TablesHold
+invariant_of-self c = (shade_done_near (tables c.self.inside) c.self.invariant c.args.q (sym (rw (← c.self.view_is) at c.requires).white) c.if-z-q.true).0
 
 pub returns-then-z-q : goal.returns-then-z-q
 unfolding arcs_of TablesHold
 returns-then-z-q c =
-    let t = tables c.args.self.now in
+    let t = tables c.self.inside in
     let q = c.args.q in
-    let l = white_slot t c.requires.sound q (sym c.requires.white) in
-    let d = shade_done_near t c.requires.sound q (sym c.requires.white) c.if-z-q.true in
-    record {
+    let white = sym (rw (← c.self.view_is) at c.requires).white in
+    let l = white_slot t c.self.invariant q white in
+    let d = shade_done_near t c.self.invariant q white c.if-z-q.true in
+    rw (← c.self.view_is) (record {
       sound = d.0;
-      left = record {
-        arcs_are = d.1;
-        open_is = refl;
-        slots_kept = refl;
-        linked = tables_linked (shaded_near t q) d.0;
-        beyond = record {
-          next_kept = same_kept t.slots t.next;
-          previous_kept = same_kept t.slots t.prev;
-          stamp_kept = set_kept t.slots t.stamp t.stamp q (t.epoch + 1) l (same_kept t.slots t.stamp);
-        };
-      };
+      left = left_as t (shaded_near t q) _ d.0 d.1 refl (record {
+        next_kept = same_kept t.slots t.next;
+        previous_kept = same_kept t.slots t.prev;
+        stamp_kept = set_kept t.slots t.stamp t.stamp q (t.epoch + 1) l (same_kept t.slots t.stamp);
+      });
       order = subst (KeepsOrder q (arcs t)) (sym d.1) (keeps_order q (arcs t));
-    }
+    })
 
-pub bounds-self-q-2 : goal.bounds-self-q-2
+pub bounds-self-inside-q-2 : goal.bounds-self-inside-q-2
 unfolding arcs_of TablesHold
-bounds-self-q-2 c = in_prev (tables c.args.self.now) c.requires.sound c.args.q (white_slot (tables c.args.self.now) c.requires.sound c.args.q (sym c.requires.white))
+bounds-self-inside-q-2 c = in_prev (tables c.self.inside) c.self.invariant c.args.q (white_slot (tables c.self.inside) c.self.invariant c.args.q (sym (rw (← c.self.view_is) at c.requires).white))
 
-pub bounds-self-q-3 : goal.bounds-self-q-3
+pub bounds-self-inside-q-3 : goal.bounds-self-inside-q-3
 unfolding arcs_of TablesHold
-bounds-self-q-3 c = in_next (tables c.args.self.now) c.requires.sound c.args.q (white_slot (tables c.args.self.now) c.requires.sound c.args.q (sym c.requires.white))
+bounds-self-inside-q-3 c = in_next (tables c.self.inside) c.self.invariant c.args.q (white_slot (tables c.self.inside) c.self.invariant c.args.q (sym (rw (← c.self.view_is) at c.requires).white))
 
-pub bounds-self-p : goal.bounds-self-p
+pub bounds-self-inside-p : goal.bounds-self-inside-p
 unfolding arcs_of TablesHold
-bounds-self-p c =
-    let t = tables c.args.self.now in
-    in_next t c.requires.sound (get_or t.prev c.args.q 0) (links_in t c.requires.sound c.args.q (white_slot (tables c.args.self.now) c.requires.sound c.args.q (sym c.requires.white))).1
+bounds-self-inside-p c =
+    let t = tables c.self.inside in
+    in_next t c.self.invariant (get_or t.prev c.args.q 0) (links_in t c.self.invariant c.args.q (white_slot (tables c.self.inside) c.self.invariant c.args.q (sym (rw (← c.self.view_is) at c.requires).white))).1
 
-pub bounds-self-n : goal.bounds-self-n
+pub bounds-self-inside-n : goal.bounds-self-inside-n
 unfolding arcs_of TablesHold
-bounds-self-n c =
-    let t = tables c.args.self.now in
-    in_prev t c.requires.sound (get_or t.next c.args.q 0) (links_in t c.requires.sound c.args.q (white_slot (tables c.args.self.now) c.requires.sound c.args.q (sym c.requires.white))).0
+bounds-self-inside-n c =
+    let t = tables c.self.inside in
+    in_prev t c.self.invariant (get_or t.next c.args.q 0) (links_in t c.self.invariant c.args.q (white_slot (tables c.self.inside) c.self.invariant c.args.q (sym (rw (← c.self.view_is) at c.requires).white))).0
 
-pub bounds-self-z : goal.bounds-self-z
+pub bounds-self-inside-z : goal.bounds-self-inside-z
 unfolding arcs_of TablesHold
-bounds-self-z c =
-    let t = tables c.args.self.now in
-    simp length-set (in_next t c.requires.sound (get_or t.prev t.grey 0) (before_grey t c.requires.sound c.args.q (white_slot (tables c.args.self.now) c.requires.sound c.args.q (sym c.requires.white))))
+bounds-self-inside-z c =
+    let t = tables c.self.inside in
+    simp length-set (in_next t c.self.invariant (get_or t.prev t.grey 0) (before_grey t c.self.invariant c.args.q (white_slot (tables c.self.inside) c.self.invariant c.args.q (sym (rw (← c.self.view_is) at c.requires).white))))
 
-pub bounds-self-z-2 : goal.bounds-self-z-2
+pub bounds-self-inside-z-2 : goal.bounds-self-inside-z-2
 unfolding arcs_of TablesHold
-bounds-self-z-2 c =
-    let t = tables c.args.self.now in
-    simp length-set (in_next t c.requires.sound (get_or t.prev t.grey 0) (before_grey t c.requires.sound c.args.q (white_slot (tables c.args.self.now) c.requires.sound c.args.q (sym c.requires.white))))
+bounds-self-inside-z-2 c =
+    let t = tables c.self.inside in
+    simp length-set (in_next t c.self.invariant (get_or t.prev t.grey 0) (before_grey t c.self.invariant c.args.q (white_slot (tables c.self.inside) c.self.invariant c.args.q (sym (rw (← c.self.view_is) at c.requires).white))))
 
-pub bounds-self-q-4 : goal.bounds-self-q-4
+pub bounds-self-inside-q-4 : goal.bounds-self-inside-q-4
 unfolding arcs_of TablesHold
-bounds-self-q-4 c = simp length-set (in_prev (tables c.args.self.now) c.requires.sound c.args.q (white_slot (tables c.args.self.now) c.requires.sound c.args.q (sym c.requires.white)))
+bounds-self-inside-q-4 c = simp length-set (in_prev (tables c.self.inside) c.self.invariant c.args.q (white_slot (tables c.self.inside) c.self.invariant c.args.q (sym (rw (← c.self.view_is) at c.requires).white)))
 
-pub bounds-self-q-5 : goal.bounds-self-q-5
+pub bounds-self-inside-q-5 : goal.bounds-self-inside-q-5
 unfolding arcs_of TablesHold
-bounds-self-q-5 c = simp length-set (in_next (tables c.args.self.now) c.requires.sound c.args.q (white_slot (tables c.args.self.now) c.requires.sound c.args.q (sym c.requires.white)))
+bounds-self-inside-q-5 c = simp length-set (in_next (tables c.self.inside) c.self.invariant c.args.q (white_slot (tables c.self.inside) c.self.invariant c.args.q (sym (rw (← c.self.view_is) at c.requires).white)))
 
-pub bounds-self-y : goal.bounds-self-y
+pub bounds-self-inside-y : goal.bounds-self-inside-y
 unfolding arcs_of TablesHold
-bounds-self-y c =
-    let t = tables c.args.self.now in
+bounds-self-inside-y c =
+    let t = tables c.self.inside in
     let q = c.args.q in
-    let l = white_slot t c.requires.sound q (sym c.requires.white) in
+    let l = white_slot t c.self.invariant q (sym (rw (← c.self.view_is) at c.requires).white) in
     let z = get_or t.prev t.grey 0 in
-    simp length-set (in_prev t c.requires.sound (get_or (nx1 t.next t.prev q z) z 0) (after_unlinked t c.requires.sound q z l (before_grey t c.requires.sound q l)))
+    simp length-set (in_prev t c.self.invariant (get_or (nx1 t.next t.prev q z) z 0) (after_unlinked t c.self.invariant q z l (before_grey t c.self.invariant q l)))
 
 pub overflow_add-self-2 : goal.overflow_add-self-2
 unfolding arcs_of TablesHold
-overflow_add-self-2 c = grey_fits (tables c.args.self.now) c.requires.sound
+overflow_add-self-2 c = grey_fits (tables c.self.inside) c.self.invariant
 
-pub bounds-self-q-6 : goal.bounds-self-q-6
+pub bounds-self-inside-q-6 : goal.bounds-self-inside-q-6
 unfolding arcs_of TablesHold
-bounds-self-q-6 c = in_stamp (tables c.args.self.now) c.requires.sound c.args.q (white_slot (tables c.args.self.now) c.requires.sound c.args.q (sym c.requires.white))
+bounds-self-inside-q-6 c = in_stamp (tables c.self.inside) c.self.invariant c.args.q (white_slot (tables c.self.inside) c.self.invariant c.args.q (sym (rw (← c.self.view_is) at c.requires).white))
+
+pub invariant_of-self-2 : goal.invariant_of-self-2
+unfolding arcs_of TablesHold
+invariant_of-self-2 c =
+    (shade_done_far (tables c.self.inside) c.self.invariant c.args.q c.instead-self-inside.result c.instead-self-inside-2.result (sym (rw (← c.self.view_is) at c.requires).white) c.if-z-q.false c.instead-self-inside.ensures c.instead-self-inside-2.ensures).0
 
 pub returns : goal.returns
 unfolding arcs_of TablesHold
 returns c =
-    let t = tables c.args.self.now in
-    let s = c.requires.sound in
+    let t = tables c.self.inside in
+    let s = c.self.invariant in
     let q = c.args.q in
-    let l = white_slot t c.requires.sound q (sym c.requires.white) in
+    let white = sym (rw (← c.self.view_is) at c.requires).white in
+    let l = white_slot t s q white in
     let z = get_or t.prev t.grey 0 in
     let lz = before_grey t s q l in
     let li = links_in t s q l in
@@ -130,20 +135,14 @@ returns c =
     let y = get_or (nx1 t.next t.prev q z) z 0 in
     let n = get_or t.next q 0 in
     let p = get_or t.prev q 0 in
-    let t' = carried t q z c.instead-self.result c.instead-self-2.result in
-    let d = shade_done_far t s q c.instead-self.result c.instead-self-2.result (sym c.requires.white) c.if-z-q.false c.instead-self.ensures c.instead-self-2.ensures in
-    record {
+    let u = carried t q z c.instead-self-inside.result c.instead-self-inside-2.result in
+    let d = shade_done_far t s q c.instead-self-inside.result c.instead-self-inside-2.result white c.if-z-q.false c.instead-self-inside.ensures c.instead-self-inside-2.ensures in
+    rw (← c.self.view_is) (record {
       sound = d.0;
-      left = record {
-        arcs_are = d.1;
-        open_is = refl;
-        slots_kept = refl;
-        linked = tables_linked t' d.0;
-        beyond = record {
-          next_kept = set_kept t.slots t.next _ q y l (set_kept t.slots t.next _ z q lz (set_kept t.slots t.next t.next p n li.1 (same_kept t.slots t.next)));
-          previous_kept = set_kept t.slots t.prev _ y q ly (set_kept t.slots t.prev _ q z l (set_kept t.slots t.prev t.prev n p li.0 (same_kept t.slots t.prev)));
-          stamp_kept = set_kept t.slots t.stamp t.stamp q (t.epoch + 1) l (same_kept t.slots t.stamp);
-        };
-      };
+      left = left_as t u _ d.0 d.1 refl (record {
+        next_kept = set_kept t.slots t.next _ q y l (set_kept t.slots t.next _ z q lz (set_kept t.slots t.next t.next p n li.1 (same_kept t.slots t.next)));
+        previous_kept = set_kept t.slots t.prev _ y q ly (set_kept t.slots t.prev _ q z l (set_kept t.slots t.prev t.prev n p li.0 (same_kept t.slots t.prev)));
+        stamp_kept = set_kept t.slots t.stamp t.stamp q (t.epoch + 1) l (same_kept t.slots t.stamp);
+      });
       order = subst (KeepsOrder q (arcs t)) (sym d.1) (keeps_order q (arcs t));
-    }
+    })

@@ -1,13 +1,15 @@
 use Rattle.std.proofs.Common.{refl, subst, arith}
+use Rattle.ring.specs.Inside.{tables}
 use Rattle.ring.specs.View.{arcs_of, Leaves}
 use Rattle.ring.proofs.Frame.{stays}
 use Rattle.ring.proofs.ring.Ring.make_room.Goals as goal
 
 pub returns-else-self : goal.returns-else-self
 returns-else-self c =
-    let r = c.args.self.now in
-    record {
-      sound = c.requires.sound;
-      left = subst (Leaves r r (arcs_of r)) c.requires.shut (stays r c.requires.sound (arcs_of r) refl);
+    let t = tables c.self.inside in
+    let shut = (rw (← c.self.view_is) at c.requires).shut in
+    rw (← c.self.view_is) (record {
+      sound = c.self.invariant;
+      left = subst (Leaves t t (arcs_of t)) shut (stays t c.self.invariant (arcs_of t) refl);
       room = omega arith;
-    }
+    })

@@ -7,10 +7,10 @@ use Rattle.ring.proofs.ring.Ring.scan.Goals as goal
 
 pub returns-in_err-x : goal.returns-in_err-x
 returns-in_err-x c =
-    let r = c.args.self.now in
-    let none = c.in_err-x.ensures.value in
+    let t = c.args.self.now in
+    let grey = c.in_err-x.ensures in
     record {
-      sound = c.requires;
-      answer = c.from_residual.ensures ∙ none;
-      left = stays r c.requires (scanned_arcs (arcs_of r)) (scan_not (arcs_of r) none);
+      sound = grey.sound;
+      answer = c.from_residual.ensures ∙ grey.value;
+      left = stays t grey.sound (scanned_arcs (arcs_of t)) (scan_not (arcs_of t) grey.value);
     }

@@ -9,12 +9,13 @@ use Rattle.ring.proofs.ring.Ring.shade.Goals as goal
 
 pub returns-then-not-is_white : goal.returns-then-not-is_white
 returns-then-not-is_white c =
-    let r = c.args.self.now in
+    let t = c.args.self.now in
     let q = c.args.q in
-    let e = shade_not q (arcs_of r) (sym c.is_white.ensures ∙ c.if-not-is_white.true) in
+    let white = c.is_white.ensures in
+    let e = shade_not q (arcs_of t) (sym white.value ∙ c.if-not-is_white.true) in
     record {
-      sound = c.requires;
-      answer = sym c.if-not-is_white.true ∙ c.is_white.ensures;
-      left = stays r c.requires (shade_slot q (arcs_of r)) e;
-      order = subst (KeepsOrder q (arcs_of r)) (sym e) (keeps_order q (arcs_of r));
+      sound = white.sound;
+      answer = sym c.if-not-is_white.true ∙ white.value;
+      left = stays t white.sound (shade_slot q (arcs_of t)) e;
+      order = subst (KeepsOrder q (arcs_of t)) (sym e) (keeps_order q (arcs_of t));
     }

@@ -7,10 +7,10 @@ use Rattle.ring.proofs.ring.Ring.take.Goals as goal
 
 pub returns-in_err-h : goal.returns-in_err-h
 returns-in_err-h c =
-    let r = c.args.self.now in
-    let none = c.in_err-h.ensures.taken in
+    let t = c.args.self.now in
+    let free = c.in_err-h.ensures in
     record {
-      sound = c.requires;
-      answer = c.from_residual.ensures ∙ none;
-      left = stays r c.requires (taken_arcs (arcs_of r)) (take_not (arcs_of r) none);
+      sound = free.sound;
+      answer = c.from_residual.ensures ∙ free.taken;
+      left = stays t free.sound (taken_arcs (arcs_of t)) (take_not (arcs_of t) free.taken);
     }
