@@ -7,7 +7,6 @@ use Rattle.ring.specs.Calls.{taken_slot, taken_arcs}
 use Rattle.heap.specs.declared.rows.Forward.{Forward}
 use Rattle.heap.specs.View.{front, Rest, no_forward, unmoved, BelowIf}
 use Rattle.heap.proofs.Fronts.{front_set, front_at, front_push}
-use Rattle.heap.proofs.Framing.{rest_set, rest_trans}
 
 -- a write that leaves the meaning of the entry
 pub front_same : {X Y : Type 0} (f : X → Y) (n : ℕ) (xs : List X) (i : ℕ) (x d : X) → f x ≡ f (get_or xs i d) → front f n (set xs i x) ≡ front f n xs
@@ -57,9 +56,6 @@ pub forwarded_queue : (xs : List Forward) (p i q : ℕ) → i < length xs → fr
 forwarded_queue xs p i q h =
     front_push (λ f. f.copied) i (row_to xs p q) _ (omega (arith, length-set xs p (record { target = Some q; copied = (get_or xs p no_forward).copied })))
     ∙ ap (λ qs. qs ++ (q ∷ [])) (front_same (λ f. f.copied) i xs p _ no_forward refl)
-
-pub forwarded_rest : (xs : List Forward) (p i q m : ℕ) → p < m → i < m → Rest m xs (row_queued (row_to xs p q) i q)
-forwarded_rest xs p i q m a b = rest_trans m m xs (row_to xs p q) _ refl (rest_set m xs p _ a) (rest_set m (row_to xs p q) i _ b)
 
 -- a record copied: one less wants a slot
 pub unmoved_less : (fs : List (Option ℕ)) (p q : ℕ) → p < length fs → get_or fs p None ≡ None → unmoved (set fs p (Some q)) + 1 ≡ unmoved fs
