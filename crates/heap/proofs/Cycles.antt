@@ -63,7 +63,7 @@ scanned_in_ring a q e =
 pub scanned_low : {X B : Type 0} (h : Heap X B) (r : Ring) (q : ℕ) (o : Bool) → Kept h → Some q ≡ scanned_slot (arcs_of h.ring) → Leaves h.ring r (scanned_arcs (arcs_of h.ring)) o → q < h.limits.slots
 scanned_low h r q o kept e leaves =
     let in_ring : has q (ring_of (arcs_of r)) ≡ true = ap (λ a. has q (ring_of a)) leaves.arcs_are ∙ scanned_in_ring (arcs_of h.ring) q e in
-    let low : q < slots_of r = linked_below r.next.now r.previous.now (slots_of r) q (ring_of (arcs_of r)) leaves.linked in_ring in
+    let low : q < slots_of r = linked_below r.next r.prev (slots_of r) q (ring_of (arcs_of r)) leaves.linked in_ring in
     omega (arith, low, leaves.slots_kept, kept.ring_size)
 
 -- record q of the whole table and of its front

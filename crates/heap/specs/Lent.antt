@@ -12,6 +12,6 @@ pub record Lent {X B : Type 0} (t : Tables X) (h : Heap X B) : Type 0 where
   pub forward_same : h.forward.now ≡ t.forward.now
   pub notes_same : h.notes.now ≡ t.notes.now
   pub registers_rest : Rest h.limits.registers t.registers.now h.registers.now
-  pub next_rest : Rest h.limits.slots t.next.now h.ring.next.now
-  pub previous_rest : Rest h.limits.slots t.previous.now h.ring.previous.now
-  pub stamp_rest : Rest h.limits.slots t.stamp.now h.ring.stamp.now
+  pub next_rest : Rest h.limits.slots t.next.now h.ring.next
+  pub previous_rest : Rest h.limits.slots t.previous.now h.ring.prev
+  pub stamp_rest : Rest h.limits.slots t.stamp.now h.ring.stamp

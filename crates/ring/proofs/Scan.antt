@@ -1,5 +1,5 @@
 -- What `scan` does to the tables, and that the arcs follow.
-use Rattle.std.proofs.Common.{◌≡◌, ℕ, ◌+◌, ◌<◌, Bool, true, false, cond, eqb, not, ◌⊎◌, List, [], ◌∷◌, ◌++◌, length, get_or, set, is_some, Some, None, sym, refl, ap, ◌∙◌, subst, inl, inr, ⊎_elim, append_assoc, arith}
+use Rattle.std.proofs.Common.{◌≡◌, ℕ, ◌+◌, ◌<◌, Bool, true, false, eqb, not, ◌⊎◌, List, [], ◌∷◌, ◌++◌, length, get_or, set, is_some, Some, None, sym, refl, ap, ◌∙◌, subst, inl, inr, ⊎_elim, append_assoc, arith}
 use Rattle.std.proofs.lemmas.List.{append-nil, length-append, length-set, nil_from_length}
 use Rattle.std.proofs.lemmas.Bool.{eqb-true, eqb-false}
 use Rattle.std.specs.Bool.{then_some}
@@ -130,10 +130,6 @@ scan_held t a h x e =
     let same : a ≡ split = λ i. record { free = a.free; white = a.white; grey = r.1 i; black = a.black } in
     subst (Holds (scanned_at t x)) (sym (ap scanned_arcs same ∙ ap (left_by split) (scan_push r.0 x split))) (scan_lists t x a.free a.white r.0 a.black (subst (Holds t) same h))
 
-pub then_some_cond : (b : Bool) (x : ℕ) → then_some b x ≡ cond b (Some x) None
-then_some_cond true x = refl
-then_some_cond false x = refl
-
 module _ (t : Tables) (s : Sound t) where
   pub last_grey_some : 0 < t.slots → code_at t.cycle t.epoch t.stamp (get_or t.prev t.black 0) ≡ 2 → Some (get_or t.prev t.black 0) ≡ scanned_slot (arcs t)
   last_grey_some n own =
@@ -144,7 +140,7 @@ module _ (t : Tables) (s : Sound t) where
   pub last_grey_none : (t.slots ≡ 0) ⊎ ((0 < t.slots) × (code_at t.cycle t.epoch t.stamp (get_or t.prev t.black 0) ≡ 2 → ⊥)) → None ≡ scanned_slot (arcs t)
   last_grey_none o = (scan_none (arcs t) (grey_none t (arcs t) (held t s) o)).0
 
-  pub last_grey_by : 0 < t.slots → (b : Bool) → b ≡ eqb (code_at t.cycle t.epoch t.stamp (get_or t.prev t.black 0)) 2 → cond b (Some (get_or t.prev t.black 0)) None ≡ scanned_slot (arcs t)
+  pub last_grey_by : 0 < t.slots → (b : Bool) → b ≡ eqb (code_at t.cycle t.epoch t.stamp (get_or t.prev t.black 0)) 2 → then_some b (get_or t.prev t.black 0) ≡ scanned_slot (arcs t)
   last_grey_by n true e = last_grey_some n (eqb-true _ _ (sym e))
   last_grey_by n false e = last_grey_none (inr (n, eqb-false _ _ (sym e)))
 

@@ -1,7 +1,8 @@
 -- What the arcs say of single slots, and what `take` does to the tables.
-use Rattle.std.proofs.Common.{◌≡◌, ℕ, ◌+◌, ◌<◌, ◌≤◌, Bool, cond, eqb, ◌⊎◌, List, [], ◌∷◌, ◌++◌, length, get_or, set, Some, None, sym, refl, ap, ◌∙◌, subst, inl, inr, ⊎_elim, append_assoc, arith}
+use Rattle.std.proofs.Common.{◌≡◌, ℕ, ◌+◌, ◌<◌, ◌≤◌, Bool, true, false, eqb, ◌⊎◌, List, [], ◌∷◌, ◌++◌, length, get_or, set, Some, None, sym, refl, ap, ◌∙◌, subst, inl, inr, ⊎_elim, append_assoc, arith}
 use Rattle.std.proofs.lemmas.List.{length-append, length-set, get_or-set_same, get_or-set_other, nil_from_length}
-use Rattle.std.proofs.lemmas.Bool.{cases_eq, cases_lt, eq-eqb, ne_eqb, lt-ltb, le-ltb}
+use Rattle.std.proofs.lemmas.Bool.{eqb-true, eqb-false, cases_eq, cases_lt, lt-ltb, le-ltb}
+use Rattle.std.specs.Bool.{then_some}
 use Rattle.ring.specs.Arcs.{Arcs, ring_of, take_from}
 use Rattle.ring.specs.Calls.{moved_slot, taken_slot, taken_arcs, first_of}
 use Rattle.ring.specs.Sound.{Tables, count, Ringed, Starts, code_at, Coloured, arcs, Holds}
@@ -155,12 +156,9 @@ take_none a e =
 
 module _ (t : Tables) (s : Sound t) where
   -- What the colour of the first slot says.
-  pub head_some : 0 < t.slots → first_of (arcs t).free ≡ cond (eqb (code_at t.cycle t.epoch t.stamp t.head) 0) (Some t.head) None
-  head_some n =
-      ⊎_elim
-      (λ e. rw (eq-eqb (code_at t.cycle t.epoch t.stamp t.head) 0 e) (sym (free_first t (arcs t) (held t s) n e)))
-      (λ ne. rw (ne_eqb (code_at t.cycle t.epoch t.stamp t.head) 0 ne) (ap first_of (free_none t (arcs t) (held t s) (inr ne))))
-      (cases_eq (code_at t.cycle t.epoch t.stamp t.head) 0)
+  pub head_by : 0 < t.slots → (b : Bool) → b ≡ eqb (code_at t.cycle t.epoch t.stamp t.head) 0 → then_some b t.head ≡ first_of (arcs t).free
+  head_by n true e = free_first t (arcs t) (held t s) n (eqb-true _ _ (sym e))
+  head_by n false e = sym (ap first_of (free_none t (arcs t) (held t s) (inr (eqb-false _ _ (sym e)))))
 
   pub head_none : t.slots ≡ 0 → first_of (arcs t).free ≡ None
   head_none z = ap first_of (free_none t (arcs t) (held t s) (inl z))

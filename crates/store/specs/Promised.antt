@@ -57,9 +57,9 @@ pub record Untouched {X B : Type 0} (t : Tables X) (h : Heap X B) : Type 0 where
   pub registers_rest : Rest h.limits.registers t.registers.now h.registers.now
   pub forward_rest : Rest h.limits.places t.forward.now h.forward.now
   pub notes_rest : Rest h.limits.slots t.notes.now h.notes.now
-  pub next_rest : Rest h.limits.slots t.next.now h.ring.next.now
-  pub previous_rest : Rest h.limits.slots t.previous.now h.ring.previous.now
-  pub stamp_rest : Rest h.limits.slots t.stamp.now h.ring.stamp.now
+  pub next_rest : Rest h.limits.slots t.next.now h.ring.next
+  pub previous_rest : Rest h.limits.slots t.previous.now h.ring.prev
+  pub stamp_rest : Rest h.limits.slots t.stamp.now h.ring.stamp
 
 -- the records that the slots have when the tables are lent, which may be any
 abbrev pub slots_lent : {X : Type 0} → Ghosts X → Asked → Tables X → List Record

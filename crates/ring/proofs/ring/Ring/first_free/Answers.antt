@@ -1,10 +1,9 @@
-use Rattle.std.proofs.Common.{cond, Some, None, sym, ap, ◌∙◌, arith}
+use Rattle.std.proofs.Common.{sym, ◌∙◌, arith}
 use Rattle.ring.specs.Inside.{tables}
 use Rattle.ring.specs.Sound.{code, arcs}
 use Rattle.ring.specs.View.{arcs_of, TablesHold}
 use Rattle.ring.proofs.Bounds.{head_in}
-use Rattle.ring.proofs.Scan.{then_some_cond}
-use Rattle.ring.proofs.Steps.{head_some, head_none, taken_first}
+use Rattle.ring.proofs.Steps.{head_by, head_none, taken_first}
 use Rattle.ring.proofs.ring.Ring.first_free.Goals as goal
 
 pub returns-then-self-eq0 : goal.returns-then-self-eq0
@@ -23,5 +22,5 @@ unfolding arcs_of TablesHold code
 returns c =
     let t = tables c.self.inside in
     let h = rw (← c.self.view_is) at c.has_colour.ensures in
-    let e = c.then_some.ensures ∙ (then_some_cond _ _ ∙ (ap (λ b. cond b (Some t.head) None) h ∙ sym (head_some t c.self.invariant (omega arith)))) in
+    let e = c.then_some.ensures ∙ head_by t c.self.invariant (omega arith) c.has_colour.result h in
     rw (← c.self.view_is) (record { sound = c.self.invariant; value = e; taken = e ∙ sym (taken_first (arcs t)) })

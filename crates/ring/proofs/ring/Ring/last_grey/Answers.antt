@@ -3,7 +3,7 @@ use Rattle.ring.specs.Inside.{tables}
 use Rattle.ring.specs.Sound.{code, arcs}
 use Rattle.ring.specs.View.{arcs_of, TablesHold}
 use Rattle.ring.proofs.Bounds.{in_prev, black_in, links_in}
-use Rattle.ring.proofs.Scan.{then_some_cond, last_grey_by, last_grey_none, scanned_some}
+use Rattle.ring.proofs.Scan.{last_grey_by, last_grey_none, scanned_some}
 use Rattle.ring.proofs.ring.Ring.last_grey.Goals as goal
 
 pub returns-then-self-eq0 : goal.returns-then-self-eq0
@@ -30,5 +30,5 @@ unfolding arcs_of TablesHold code
 returns c =
     let t = tables c.self.inside in
     let h = rw (← c.self.view_is) at c.has_colour.ensures in
-    let e = c.then_some.ensures ∙ then_some_cond _ _ ∙ last_grey_by t c.self.invariant (omega arith) c.has_colour.result h in
+    let e = c.then_some.ensures ∙ last_grey_by t c.self.invariant (omega arith) c.has_colour.result h in
     rw (← c.self.view_is) (record { sound = c.self.invariant; value = e; some = ap is_some e ∙ scanned_some (arcs t) })

@@ -9,9 +9,6 @@ pub loop-init : goal.loop-init
 unfolding TablesHold
 loop-init c = told_none (tables c.self.inside) c.self.invariant
 
-pub stamped_colour-requires : goal.stamped_colour-requires
-stamped_colour-requires c = rw (← c.self.view_is) (record { slot = c.loop.invariant.low (λ e. omega arith) })
-
 pub with-counted-requires : goal.with-counted-requires
 with-counted-requires c =
     let b = told_le (tables c.self.inside) c.loop.counter c.loop.x c.loop.counted c.loop.invariant in

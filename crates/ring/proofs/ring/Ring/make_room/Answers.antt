@@ -1,15 +1,10 @@
-use Rattle.std.proofs.Common.{refl, subst, arith}
+use Rattle.std.proofs.Common.{refl, subst}
 use Rattle.ring.specs.Inside.{tables}
 use Rattle.ring.specs.View.{arcs_of, Leaves}
 use Rattle.ring.proofs.Frame.{stays}
 use Rattle.ring.proofs.ring.Ring.make_room.Goals as goal
 
-pub returns-else-self : goal.returns-else-self
-returns-else-self c =
+pub returns-else-self-clause-left : goal.returns-else-self-clause-left
+returns-else-self-clause-left c =
     let t = tables c.self.inside in
-    let shut = (rw (← c.self.view_is) at c.requires).shut in
-    rw (← c.self.view_is) (record {
-      sound = c.self.invariant;
-      left = subst (Leaves t t (arcs_of t)) shut (stays t c.self.invariant (arcs_of t) refl);
-      room = omega arith;
-    })
+    rw (← c.self.view_is) (subst (Leaves t t (arcs_of t)) (rw (← c.self.view_is) at c.requires).shut (stays t c.self.invariant _ refl))

@@ -1,4 +1,4 @@
-use Rattle.std.proofs.Common.{not, sym, ap, subst}
+use Rattle.std.proofs.Common.{sym, subst}
 use Rattle.std.proofs.lemmas.Bool.{cond-true}
 use Rattle.ring.specs.Arcs.{open_arcs}
 use Rattle.ring.specs.Calls.{opened_arcs}
@@ -7,13 +7,9 @@ use Rattle.ring.specs.View.{arcs_of, is_open_of, Leaves}
 use Rattle.ring.proofs.Frame.{stays}
 use Rattle.ring.proofs.ring.Ring.open_cycle.Goals as goal
 
-pub returns-then-self : goal.returns-then-self
-returns-then-self c =
+pub returns-then-self-clause-left : goal.returns-then-self-clause-left
+returns-then-self-clause-left c =
     let t = tables c.self.inside in
     let a = arcs_of t in
     let o = is_open_of t in
-    rw (← c.self.view_is) (record {
-      sound = c.self.invariant;
-      answer = sym (ap not c.if-self.true);
-      left = subst (Leaves t t (opened_arcs o a)) c.if-self.true (stays t c.self.invariant (opened_arcs o a) (sym (cond-true o a (open_arcs a) c.if-self.true)));
-    })
+    rw (← c.self.view_is) (subst (Leaves t t (opened_arcs o a)) c.if-self.true (stays t c.self.invariant _ (sym (cond-true o a (open_arcs a) c.if-self.true))))
