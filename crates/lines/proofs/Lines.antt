@@ -1,7 +1,8 @@
 -- Lines, from the first byte and from a place in the input.
-use Rattle.std.proofs.Common.{◌≡◌, ℕ, suc, ◌+◌, ◌-◌, ◌<◌, ◌≤◌, Bool, not, eqb, List, [], ◌∷◌, ◌++◌, length, take, drop, sym, refl, ap, ◌∙◌, ⊎_elim, one-add, arith}
+use Rattle.std.proofs.Common.{◌≡◌, ℕ, suc, ◌+◌, ◌-◌, ◌<◌, ◌≤◌, min, Bool, true, false, not, eqb, leb, List, [], ◌∷◌, ◌++◌, length, take, drop, sym, refl, ap, ◌∙◌, ⊎_elim, one-add, arith}
 use Rattle.std.specs.List.{prefix_len, between, AllByRecursion}
-use Rattle.std.proofs.lemmas.List.{drop_all, drop-drop, length-drop}
+use Rattle.std.proofs.lemmas.Bool.Decides.{nat_tests}
+use Rattle.std.proofs.lemmas.List.{take_rest, drop_all, drop-drop, length-drop}
 use Rattle.std.proofs.lemmas.List.Sums.{prefix_len-le-length}
 use Rattle.std.proofs.lemmas.Bool.{ne_eqb, cond-true, cond-false, cases_Bool, not_from_true, not_from_false}
 use Rattle.lines.specs.Lines.{onto_first, lines, line_end, InLine, LineLaws}
@@ -49,6 +50,20 @@ lines_more input p within =
     let size : n ≡ line_end input p - p = omega arith in
     let next : p + suc n ≡ line_end input p + 1 = omega arith in
     lines_first (drop p input) (omega (arith, length-drop p input)) ∙ ap (λ k. take k (drop p input) ∷ lines (drop (suc n) (drop p input))) size ∙ ap (λ l. between p (line_end input p) input ∷ lines l) (drop-drop (suc n) p input ∙ ap (λ k. drop k input) next)
+
+-- the first line and what follows its newline, as slices
+pub first_line : (input : List ℕ) (e m : ℕ) → 0 < length input → e ≡ prefix_len in_line input → m ≡ min (e + 1) (length input) → (lines input ≡ take e input ∷ lines (between m (length input) input)) × (length (between m (length input) input) < length input)
+first_line input e m some ends next =
+    let low : e ≤ length input = omega (arith, prefix_len-le-length in_line input) in
+    let past : drop (suc e) input ≡ drop m input = go (leb (length input) (suc e)) refl in
+    let rest = take_rest input m in (
+      lines_first input some ∙ ap (λ k. take k input ∷ lines (drop (suc k) input)) (sym ends) ∙ ap (λ l. take e input ∷ lines l) (past ∙ sym rest),
+      omega (arith, ap length rest, length-drop m input),
+    )
+  where
+    go : (t : Bool) → leb (length input) (suc e) ≡ t → drop (suc e) input ≡ drop m input
+    go true h = let past : length input ≤ suc e = grind (arith, nat_tests) in drop_all (suc e) input past ∙ sym (drop_all m input (omega arith))
+    go false h = let short : suc e < length input = grind (arith, nat_tests) in let same : suc e ≡ m = omega arith in ap (λ k. drop k input) same
 
 -- the laws
 ended : (line rest : List ℕ) → AllByRecursion InLine line → lines (line ++ (10 ∷ rest)) ≡ line ∷ lines rest

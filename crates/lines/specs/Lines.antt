@@ -1,5 +1,5 @@
 -- The lines of an input, and which lines are good.
-use Rattle.std.specs.Prelude.{◌≡◌, ℕ, ◌+◌, ◌<◌, min, Bool, cond, not, ◌&&◌, List, [], ◌∷◌, ◌++◌, length, drop, ◌==◌, nat_le}
+use Rattle.std.specs.Prelude.{◌≡◌, ℕ, ◌+◌, ◌<◌, min, Bool, cond, not, ◌&&◌, List, [], ◌∷◌, ◌++◌, length, drop, Some, None, Option, ◌==◌, nat_le}
 use Rattle.std.specs.List.{list_all, prefix_len, AllByRecursion}
 
 -- a byte in front of the first line
@@ -19,6 +19,11 @@ line_end input from = min (length input) (from + prefix_len (λ b. not (b == 10)
 -- a byte of a line: any but 10
 abbrev pub InLine : ℕ → Type 0
 InLine b = b ≡ 10 → ⊥
+
+-- the first line of an input and what is left for the lines after it, or nothing where there is no line
+abbrev pub FirstLine : List ℕ → Option (List ℕ × List ℕ) → Type 0
+FirstLine input None = lines input ≡ []
+FirstLine input (Some parts) = (lines input ≡ parts.0 ∷ lines parts.1) × (length parts.1 < length input)
 
 -- what lines are, by what they are made of
 pub record LineLaws : Type 0 where

@@ -1,7 +1,8 @@
 // Where lines end, and which lines are good.
 ghost use Rattle.std.specs.Prelude.{◌≡◌, ◌≤◌, length, ◌==◌};
 ghost use Rattle.std.specs.List.{position_or_len};
-ghost use Rattle.lines.specs.Lines.{line_end, good_line, printable, LineLaws};
+ghost use Rattle.std.specs.Option.{option_map};
+ghost use Rattle.lines.specs.Lines.{line_end, good_line, printable, FirstLine, LineLaws};
 
 // How many bytes stand before the first newline, or at all where there is none.
 fn line_len(input: &[u8]) -> usize
@@ -23,6 +24,18 @@ pub fn line_end(input: &[u8], from: usize) -> usize
 {
     let start = from.min(input.len());
     start + line_len(&input[start..])
+}
+
+// The first line of an input and what follows its newline, or nothing where the input is empty.
+pub fn split_line(input: &[u8]) -> Option<(&[u8], &[u8])>
+    ensures { FirstLine input.now (option_map (λ parts. (parts.0.now, parts.1.now)) result) }
+{
+    if input.is_empty() {
+        return None;
+    }
+    let end = line_len(input);
+    let next = (end + 1).min(input.len());
+    Some((&input[..end], &input[next..]))
 }
 
 // Whether each byte is one of 32 to 126.

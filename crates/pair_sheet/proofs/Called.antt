@@ -1,5 +1,5 @@
 -- The calls of a sheet: refusals of the store as rows, and numbers that are passed on.
-use Rattle.std.proofs.Common.{◌≡◌, ℕ, List, ℤ, Err, Result, refl, ap, ◌∙◌, w64, SFits, to_z, of_z}
+use Rattle.std.proofs.Common.{◌≡◌, ℕ, ℤ, Err, Result, refl, ap, ◌∙◌, w64, SFits, to_z, of_z}
 use Rattle.std.proofs.lemmas.Int.{to_z-of_z}
 use Rattle.words.specs.declared.fault.WordFault.TheVariants.{NumberOutOfRange}
 use Rattle.rules.specs.Rules.{Barrier, Call, write, refused}
@@ -7,10 +7,11 @@ use Rattle.kinds.specs.Faults.{store_refusal}
 use Rattle.kinds.specs.declared.fault.StoreFault.{StoreFault}
 use Rattle.kinds.specs.declared.fault.StoreFault.TheVariants.{SizeOutOfRange, TableShort, NoSuchRegister, Word, NoSuchLink, WrongLinkCount, BadDose, Closed, NoRecord, NurseryFull, NoRoom, NotesFull, EndlessChain}
 use Rattle.registers.specs.State.{State, after, answer}
-use Rattle.pair_sheet.specs.declared.fault.SheetFault.{SheetFault}
-use Rattle.pair_sheet.specs.declared.fault.SheetFault.TheVariants.{Store}
-use Rattle.pair_sheet.specs.Runs.{Called, row_of_result, fits_result}
-use Rattle.pair_sheet.specs.Sheets.{reply_of, row_of_reply}
+use Rattle.answering.specs.declared.fault.SheetFault.{SheetFault}
+use Rattle.answering.specs.declared.fault.SheetFault.TheVariants.{Store}
+use Rattle.answering.specs.declared.values.Values.{Values}
+use Rattle.answering.specs.Runs.{Called, row_of_result}
+use Rattle.answering.specs.Sheets.{reply_of, row_of_reply}
 
 -- the row of a refusal: only 4 is one of the word layer
 refusal_row : (e : StoreFault) (n : ℕ) → row_of_result n (Err (Store e)) ≡ row_of_reply n (reply_of (refused (store_refusal e)))
@@ -29,11 +30,10 @@ refusal_row NotesFull n = refl
 refusal_row EndlessChain n = refl
 
 -- a call that the store refuses
-pub called_refused : (b : Barrier) (was is : State) (c : Call) (e : StoreFault) (r : Result (List ℤ) SheetFault) → is ≡ after b was c → refused (store_refusal e) ≡ answer b was c → r ≡ Err (Store e) → Called b was is c r
+pub called_refused : (b : Barrier) (was is : State) (c : Call) (e : StoreFault) (r : Result Values SheetFault) → is ≡ after b was c → refused (store_refusal e) ≡ answer b was c → r ≡ Err (Store e) → Called b was is c r
 called_refused b was is c e r left told value = record {
   state = left;
   reply = λ n. ap (row_of_result n) value ∙ refusal_row e n ∙ ap (λ a. row_of_reply n (reply_of a)) told;
-  fits = ap fits_result value;
 }
 
 -- a write whose numbers were passed on as 64-bit ones

@@ -1,4 +1,3 @@
 pub mod Called
 pub mod Pairs
-pub mod Runs
 pub mod Promised

@@ -8,7 +8,8 @@ use Rattle.registers.specs.declared.sizes.Sizes.{Sizes}
 use Rattle.heap.specs.Meaning.{meaning_of}
 use Rattle.registers.specs.Opening.{natural, sizes_in_range}
 use Rattle.registers.specs.State.{State, sizes_of}
-use Rattle.pair_sheet.specs.Pairs.{pairs, register_count, place_count, slot_count, within_lent, why_pairs, empty_pair, closed_pairs, pairs_opened}
+use Rattle.answering.specs.Sheets.{register_count}
+use Rattle.pair_sheet.specs.Pairs.{pairs, place_count, slot_count, within_lent, why_pairs, empty_pair, closed_pairs, pairs_opened}
 
 -- what the store tests of the eight tables, one after the other
 abbrev long : Sizes → Bool

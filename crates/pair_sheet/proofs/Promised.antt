@@ -19,7 +19,8 @@ use Rattle.lines.specs.Commands.{commands}
 use Rattle.lines.specs.Lines.{lines}
 use Rattle.pair_sheet.specs.Pairs.{empty_pair, within_lent, why_pairs, new_pairs, closed_pairs}
 use Rattle.lines.specs.Requests.{parsed}
-use Rattle.pair_sheet.specs.Sheets.{running, Order, opening, calling, order, order_of, reply_of, state_opened, state_after_order, state_after_request, state_after_line, reply_to_order, reply_to_request, row_of_reply, next_line, written_for}
+use Rattle.answering.specs.Sheets.{running, Order, opening, calling, order_of, order_read, reply_of, state_opened, state_after_order, state_after_asked, reply_to_order, reply_to_asked, row_of_reply, next_line, written_for}
+use Rattle.pair_sheet.specs.Sheets.{order, rules, state_after_line}
 use Rattle.pair_sheet.specs.Promised.{Log, unopened, since, log_after_order, log_after_request, log_after_line, log_after, state_after, new_slots, state_of, book_reply_to_order, book_reply_to_request, book_reply_to_line, written_by_book, Promised, SheetPromise}
 
 -- the barrier is lawful, and the sizes are in range
@@ -93,7 +94,7 @@ ready_after_order unopened (calling c) lawful ready = tt
 ready_after_order (since b z calls) (opening b' z') lawful ready = ready
 ready_after_order (since b z calls) (calling c) lawful ready = ready
 
-state_by_order : (l : Log) (o : Order) → state_after_order (state_of l) o ≡ state_of (log_after_order l o)
+state_by_order : (l : Log) (o : Order) → state_after_order rules (state_of l) o ≡ state_of (log_after_order l o)
 state_by_order unopened (opening b z) = go (eqb (why_pairs z) 0) refl
   where
     go : (t : Bool) → eqb (why_pairs z) 0 ≡ t → state_opened b (cond t (new_pairs z) (closed_pairs (why_pairs z))) ≡ state_of (cond t (since b (sizes_of 2 z) []) unopened)
@@ -109,7 +110,7 @@ promised unopened ready = tt
 promised (since b z calls) (lawful, range) = nothing_in_use_is_taken_back b lawful z range (new_slots z) (length-replicate z.slots empty_pair) calls
 
 -- the book answers an order as the store does
-reply_by_order : (l : Log) → Ready l → (o : Order) → reply_to_order (state_of l) o ≡ book_reply_to_order l o
+reply_by_order : (l : Log) → Ready l → (o : Order) → reply_to_order rules (state_of l) o ≡ book_reply_to_order l o
 reply_by_order unopened ready (opening b z) = refl
 reply_by_order unopened ready (calling c) = refl
 reply_by_order (since b z calls) ready (opening b' z') = refl
@@ -118,15 +119,15 @@ reply_by_order (since b z calls) ready (calling c) = ap reply_of ((promised (sin
 -- and so for a line
 module _ (l : Log) (ready : Ready l) where
   ready_after_request : (r : Result (Request Command) FormatFault) → Ready (log_after_request l r)
-  ready_after_request (Ok q) = ready_after_order l (order_of q) (asks_lawful q.command q.a q.b q.c) ready
+  ready_after_request (Ok q) = ready_after_order l (order_of order q) (asks_lawful q.command q.a q.b q.c) ready
   ready_after_request (Err e) = ready
 
-  state_by_request : (r : Result (Request Command) FormatFault) → state_after_request (state_of l) r ≡ state_of (log_after_request l r)
-  state_by_request (Ok q) = state_by_order l (order_of q)
+  state_by_request : (r : Result (Request Command) FormatFault) → state_after_asked rules (state_of l) (order_read order r) ≡ state_of (log_after_request l r)
+  state_by_request (Ok q) = state_by_order l (order_of order q)
   state_by_request (Err e) = refl
 
-  reply_by_request : (r : Result (Request Command) FormatFault) → reply_to_request (state_of l) r ≡ book_reply_to_request l r
-  reply_by_request (Ok q) = reply_by_order l ready (order_of q)
+  reply_by_request : (r : Result (Request Command) FormatFault) → reply_to_asked rules (state_of l) (order_read order r) ≡ book_reply_to_request l r
+  reply_by_request (Ok q) = reply_by_order l ready (order_of order q)
   reply_by_request (Err e) = refl
 
 -- and for lines
@@ -139,12 +140,12 @@ state_by_log l ready [] = refl
 state_by_log l ready (line ∷ rest) =
     ap (λ s. state_after s rest) (state_by_request l ready (parsed commands line)) ∙ state_by_log (log_after_line l line) (ready_after_request l ready (parsed commands line)) rest
 
-written_by_log : (l : Log) → Ready l → (n : ℕ) (ls : List (List ℕ)) → written_for (state_of l) n ls ≡ written_by_book l n ls
+written_by_log : (l : Log) → Ready l → (n : ℕ) (ls : List (List ℕ)) → written_for rules (state_of l) n ls ≡ written_by_book l n ls
 unfolding written_for written_by_book
 written_by_log l ready n [] = refl
 written_by_log l ready n (line ∷ rest) =
-    ap (λ r. row_bytes (row_of_reply n r) ++ written_for (state_after_line (state_of l) line) (next_line n) rest) (reply_by_request l ready (parsed commands line))
-    ∙ ap (λ s. row_bytes (row_of_reply n (book_reply_to_line l line)) ++ written_for s (next_line n) rest) (state_by_request l ready (parsed commands line))
+    ap (λ r. row_bytes (row_of_reply n r) ++ written_for rules (state_after_line (state_of l) line) (next_line n) rest) (reply_by_request l ready (parsed commands line))
+    ∙ ap (λ s. row_bytes (row_of_reply n (book_reply_to_line l line)) ++ written_for rules s (next_line n) rest) (state_by_request l ready (parsed commands line))
     ∙ ap (λ bs. row_bytes (row_of_reply n (book_reply_to_line l line)) ++ bs) (written_by_log (log_after_line l line) (ready_after_request l ready (parsed commands line)) (next_line n) rest)
 
 pub sheet_promise : (input : List ℕ) → SheetPromise input

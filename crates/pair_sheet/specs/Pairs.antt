@@ -10,6 +10,7 @@ use Rattle.registers.specs.declared.sizes.Sizes.{Sizes}
 use Rattle.registers.specs.Opening.{natural, sizes_in_range}
 use Rattle.registers.specs.State.{State, sizes_of, no_sizes}
 use Rattle.heap.specs.View.{view}
+use Rattle.answering.specs.Sheets.{register_count}
 
 -- what a heap of pairs holds
 abbrev pub pairs : Ghosts Pair
@@ -18,10 +19,7 @@ pairs = ghosts
 abbrev pub held : {B : Type 0} → Heap Pair B → State
 held h = view pairs h
 
--- the sheet lends 8 registers, 64 nursery places and 256 slots
-abbrev pub register_count : ℕ
-register_count = 8
-
+-- beside its registers the sheet lends 64 nursery places and 256 slots
 abbrev pub place_count : ℕ
 place_count = 64
 

@@ -13,7 +13,8 @@ use Rattle.lines.specs.Commands.{commands}
 use Rattle.lines.specs.Lines.{lines}
 use Rattle.pair_sheet.specs.Pairs.{empty_pair, why_pairs, pairs_opened}
 use Rattle.lines.specs.Requests.{format_refusal, format_column, parsed}
-use Rattle.pair_sheet.specs.Sheets.{SheetState, waiting, running, Reply, declined, Order, opening, calling, order_of, reply_of, reply_opened, state_after_line, row_of_reply, next_line, sheet_output}
+use Rattle.answering.specs.Sheets.{SheetState, waiting, running, Reply, declined, Order, opening, calling, order_of, reply_of, reply_opened, row_of_reply, next_line}
+use Rattle.pair_sheet.specs.Sheets.{order, state_after_line, sheet_output}
 
 -- what the lines so far have done: no open was accepted, or one with a barrier and sizes, and these calls were made since
 pub data Log : Type 0 where
@@ -28,7 +29,7 @@ log_after_order (since b z calls) (calling c) = since b z (calls ++ (c ∷ []))
 
 -- a line that is not in the format does nothing
 abbrev pub log_after_request : Log → Result (Request Command) FormatFault → Log
-log_after_request l (Ok q) = log_after_order l (order_of q)
+log_after_request l (Ok q) = log_after_order l (order_of order q)
 log_after_request l (Err e) = l
 
 abbrev pub log_after_line : Log → List ℕ → Log
@@ -69,7 +70,7 @@ book_reply_to_order (since b z calls) (opening b' z') = declined 34 1 0
 book_reply_to_order (since b z calls) (calling c) = reply_of (book_answer b z calls c)
 
 abbrev pub book_reply_to_request : Log → Result (Request Command) FormatFault → Reply
-book_reply_to_request l (Ok q) = book_reply_to_order l (order_of q)
+book_reply_to_request l (Ok q) = book_reply_to_order l (order_of order q)
 book_reply_to_request l (Err e) = declined (format_refusal e) 1 (format_column e)
 
 abbrev pub book_reply_to_line : Log → List ℕ → Reply

@@ -1,8 +1,9 @@
-// The sheet: the lines of an input one after the other, made as calls on a store, and their answers.
+// The sheet of pairs: its lines made as calls on a store of pairs, and their answers.
 #![tactic(auto)]
 
 mod calls;
-pub mod fault;
 pub mod run;
 #[cfg(test)]
 mod run_tests;
+
+pub use answering::fault;

@@ -4,7 +4,7 @@ use Rattle.kinds.specs.Faults.{store_refusal}
 use Rattle.registers.specs.Answers.{told_done}
 use Rattle.registers.specs.State.{after, answer}
 use Rattle.pair_sheet.specs.Pairs.{held}
-use Rattle.pair_sheet.specs.declared.fault.SheetFault.TheVariants.{Store}
+use Rattle.answering.specs.declared.fault.SheetFault.TheVariants.{Store}
 use Rattle.pair_sheet.proofs.Called.{called_refused, write_passed}
 use Rattle.pair_sheet.proofs.calls.write.Goals as goal
 
