@@ -1,41 +1,31 @@
-// The tables and sizes of a store, with the calls on them. The calls need the heap to be sound; every store has a sound one.
-ghost use Rattle.std.specs.Prelude.{◌≡◌, length, drop, refl};
-ghost use Rattle.registers.specs.Opening.{limits_over};
-ghost use Rattle.registers.specs.State.{opened};
-ghost use Rattle.registers.specs.View.{view, Sound, Beyond};
+// The register table and the sizes of a store of registers alone.
+ghost use Rattle.std.specs.Prelude.{◌≡◌, ◌≤◌, length, drop, refl};
 
 use crate::sizes::{Limits, Sizes};
 use crate::table::RegisterTable;
 use kinds::barrier::Barrier;
 use kinds::fault::StoreFault;
 
+// The table has a place for each register.
 #[derive(Drop)]
-pub struct Heap<'a, B: Barrier> {
+pub struct Heap<'a, B> {
     registers: &'a mut [u32],
     limits: Limits,
     status: Result<(), StoreFault>,
     barrier: B,
-}
-
-// The limits of a store of these sizes, if a table of so many places has one for each register.
-fn limits_for(sizes: Sizes, places: usize) -> Result<Limits, StoreFault>
-    ensures { result ≡ limits_over sizes places }
-{
-    let limits = Limits::try_from(sizes)?;
-    if places < limits.registers as usize {
-        return Err(StoreFault::TableShort);
-    }
-    Ok(limits)
+    ghost long: { limits.registers ≤ length registers.now },
 }
 
 impl<'a, B: Barrier> Heap<'a, B> {
+    ghost use Rattle.registers.specs.State.{opened};
+    ghost use Rattle.registers.specs.View.{view};
+
     // A new heap over a lent table, or a closed one that leaves the table as it is.
     pub(crate) fn open(registers: &'a mut [u32], sizes: Sizes, barrier: B) -> Heap<'a, B>
-        ensures sound { Sound result }
         ensures state { view result ≡ opened sizes (length registers.old) }
         ensures beyond { drop result.limits.registers result.registers.now ≡ drop result.limits.registers registers.old }
     {
-        let asked = limits_for(sizes, registers.len());
+        let asked = Limits::over(sizes, registers.len());
         let limits = asked.unwrap_or_default();
         registers[..limits.registers as usize].fill(0);
         Heap {
@@ -48,13 +38,15 @@ impl<'a, B: Barrier> Heap<'a, B> {
 }
 
 impl<B: Barrier> RegisterTable for Heap<'_, B> {
+    ghost use Rattle.registers.specs.View.{view, Beyond};
+
     ghost state = { view };
 
     ghost status = { λ h. h.status };
 
     ghost answers = { B.Barrier.answers };
 
-    ghost sound = { Sound };
+    ghost sound = { λ h. Unit {0} };
 
     ghost frame = { Beyond };
 

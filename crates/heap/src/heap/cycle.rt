@@ -20,7 +20,8 @@ pub struct Collected {
 }
 
 impl<T: Kind, B: Barrier> Heap<'_, T, B> {
-    // Shades the words in the registers, ascending.
+    // Shades the words in the registers, ascending. (By index: shading takes the whole heap, so the table can't be lent to the
+    // loop.)
     fn shade_registers(&mut self)
         requires { Kept self.old }
         ensures carried { Carried self.old self.new }

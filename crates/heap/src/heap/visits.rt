@@ -34,7 +34,8 @@ impl<T: Kind, B: Barrier> Heap<'_, T, B> {
         self.rescan_word(rescan, v);
     }
 
-    // Visits the registers, ascending.
+    // Visits the registers, ascending. (By index, here and below: a visit takes the whole heap, so no table can be lent to
+    // the loop.)
     pub(crate) fn visit_registers(&mut self, rescan: bool)
         requires { Evacuating self.old }
         ensures stage { Stage self.old self.new }
@@ -85,7 +86,8 @@ impl<T: Kind, B: Barrier> Heap<'_, T, B> {
         }
     }
 
-    // Visits the links of the copied records, in order of copying; more may be copied on the way.
+    // Visits the links of the copied records, in order of copying; more may be copied on the way, so the end is read again
+    // each time.
     pub(crate) fn visit_copied(&mut self, rescan: bool)
         requires { Evacuating self.old }
         ensures stage { Stage self.old self.new }
