@@ -27,7 +27,6 @@ pub mod CycleTime
 pub mod ReachableCount
 pub mod Room
 pub mod MainPromise
-pub mod WorkedCases
 pub mod Following
 pub mod Statements
 pub mod Answered

@@ -4,7 +4,7 @@ use Rattle.rules.specs.Rules.{Barrier, Lawful}
 use Rattle.rules.specs.Book.{Reachable}
 use Rattle.rules.specs.History.{History, history_run, new_history}
 use Rattle.rules.specs.Promise.{cycle_steps, steps_in, slots_for}
-use Rattle.rules.specs.Statements.{KeepsPromise, NothingInUseIsTakenBack, ReachableRecordsAreCounted, NotesNeverRunOut, ClosesWithin, RoomSuffices, ClosedStoresAgree}
+use Rattle.rules.specs.Statements.{KeepsPromise, NothingInUseIsTakenBack, ReachableRecordsAreCounted, NotesNeverRunOut, ClosesWithin, RoomSuffices}
 use Rattle.rules.specs.Planning.{cycle_steps_of, slots_needed}
 use Rattle.rules.specs.Barriers.{lawful_test}
 use Rattle.std.proofs.lemmas.Bool.{true≢false}
@@ -31,9 +31,6 @@ reachable_records_are_counted b lawful z range slots l calls = let (n, c) = coun
 
 pub notes_never_run_out : NotesNeverRunOut
 notes_never_run_out b lawful z range slots l calls = never_24 z b lawful slots l calls
-
-pub closed_stores_agree : ClosedStoresAgree
-closed_stores_agree z b s k c = (refl, refl)
 
 -- figures for planning
 pub closes_within : (n k : ℕ) (r : Option ℕ) → r ≡ cycle_steps_of n k → (t : ℕ) → r ≡ Some t → ClosesWithin n k t
