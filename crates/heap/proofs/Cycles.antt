@@ -1,7 +1,7 @@
 -- Shading, opening, scanning and closing, over models and heaps.
-use Rattle.std.proofs.Common.{◌≡◌, ℕ, zero, suc, ◌+◌, ◌<◌, ◌≤◌, Bool, true, false, eqb, List, [], ◌∷◌, ◌++◌, map, length, get_or, take, is_some, Some, None, Option, unwrap_or, sym, refl, ap, ◌∙◌, arith}
-use Rattle.std.proofs.lemmas.List.{get_or-take, take_more, take_all, take-map}
-use Rattle.std.proofs.lemmas.Bool.{eq-eqb, or_left, or_right, false≢true, true≢false}
+use Rattle.std.proofs.Common.{◌≡◌, ℕ, suc, ◌+◌, ◌<◌, Bool, true, eqb, List, [], ◌∷◌, ◌++◌, map, length, get_or, take, is_some, Some, None, Option, unwrap_or, sym, refl, ap, ◌∙◌, arith}
+use Rattle.std.proofs.lemmas.List.{get_or-take, take_more, take-map}
+use Rattle.std.proofs.lemmas.Bool.{eq-eqb, or_left, or_right, false≢true}
 use Rattle.ring.specs.Arcs.{Arcs, has, ring_of, scan_from, split_last}
 use Rattle.ring.specs.Calls.{moved_slot, left_by, scanned_slot, scanned_arcs}
 use Rattle.ring.specs.View.{Leaves, arcs_of, is_open_of, slots_of}
@@ -30,9 +30,6 @@ shading_more s t u ws i w low is before after =
     ∙ ap (λ x. with_arcs (shade w x.arcs) x) before
     ∙ ap (λ v. with_arcs (shade v (shade_all (take i ws) s.arcs)) s) is
     ∙ ap (λ a. with_arcs a s) (sym (shade_all_more ws i s.arcs low))
-
-pub shading_all : (s t : Store) (ws : List ℕ) (n : ℕ) → length ws ≤ n → t ≡ with_arcs (shade_all (take n ws) s.arcs) s → t ≡ with_arcs (shade_all ws s.arcs) s
-shading_all s t ws n high e = e ∙ ap (λ vs. with_arcs (shade_all vs s.arcs) s) (take_all n ws high)
 
 -- what shading a word leaves
 pub word_contents : {X B : Type 0} (g : Ghosts X) (h i : Heap X B) (w : ℕ) → i ≡ with_ring h i.ring i.counts → arcs_of i.ring ≡ shade w (arcs_of h.ring) → is_open_of i.ring ≡ is_open_of h.ring → contents g i ≡ with_arcs (shade w (contents g h).arcs) (contents g h)
@@ -82,19 +79,3 @@ scan_more n s t some e = (ap (scanned_upto n) e ∙ go (scan_one s.slots s.arcs)
     made : (o : Option Arcs) → is_some o ≡ true → suc (scan_upto s.slots n (unwrap_or o s.arcs)).1 ≡ (scan_next o (scan_upto s.slots n) s.arcs).1
     made None h = absurd (false≢true h)
     made (Some a) h = refl
-
-pub scan_stops : (n : ℕ) (s t : Store) → scans_one s ≡ false → t ≡ scanned_one s → (t ≡ scanned_upto n s) × (0 ≡ scans_made n s)
-scan_stops zero s t none e = (e ∙ go (scan_one s.slots s.arcs) none, refl)
-  where
-    go : (o : Option Arcs) → is_some o ≡ false → with_arcs (unwrap_or o s.arcs) s ≡ s
-    go None h = refl
-    go (Some a) h = absurd (true≢false h)
-scan_stops (suc n) s t none e = (e ∙ go (scan_one s.slots s.arcs) none, made (scan_one s.slots s.arcs) none)
-  where
-    go : (o : Option Arcs) → is_some o ≡ false → with_arcs (unwrap_or o s.arcs) s ≡ with_arcs (scan_next o (scan_upto s.slots n) s.arcs).0 s
-    go None h = refl
-    go (Some a) h = absurd (true≢false h)
-
-    made : (o : Option Arcs) → is_some o ≡ false → 0 ≡ (scan_next o (scan_upto s.slots n) s.arcs).1
-    made None h = refl
-    made (Some a) h = absurd (true≢false h)

@@ -1,7 +1,6 @@
 pub mod Meanings
 pub mod Fronts
 pub mod Slots
-pub mod Keeping
 pub mod Framing
 pub mod Accepted
 pub mod Refusing

@@ -1,8 +1,7 @@
 -- Slots of the ring and lengths of its arcs.
-use Rattle.std.proofs.Common.{◌≡◌, ℕ, suc, ◌<◌, Bool, true, false, ◌||◌, eqb, List, [], ◌∷◌, length, get_or, Some, None, Option, refl, subst, arith}
+use Rattle.std.proofs.Common.{◌≡◌, ℕ, suc, ◌<◌, Bool, true, false, ◌||◌, eqb, List, [], ◌∷◌, length, get_or, refl, subst, arith}
 use Rattle.std.proofs.lemmas.Bool.Decides.{nat_tests}
-use Rattle.ring.specs.Arcs.{Arcs, has, Linked}
-use Rattle.ring.specs.Calls.{moved_slot}
+use Rattle.ring.specs.Arcs.{has, Linked}
 
 -- a slot in a list stands at an index
 has_index : (q : ℕ) (xs : List ℕ) → has q xs ≡ true → (i : ℕ) × ((i < length xs) × (get_or xs i 0 ≡ q))
@@ -19,8 +18,3 @@ linked_below next prev n q ring l h =
     let (i, (low, is)) = has_index q ring h in
     let at : get_or ring i 0 < n = l.within i (subst (λ m. i < m) l.size low) in
     omega (arith, is, at)
-
--- a step of the ring that moves no slot
-pub none_moved : (o : Option (ℕ × Arcs)) → None ≡ moved_slot o → o ≡ None
-none_moved None h = refl
-none_moved (Some x) h = absurd (let z : ◌≡◌ {A = ℕ} 0 1 = cc in omega arith)

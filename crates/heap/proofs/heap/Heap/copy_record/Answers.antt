@@ -1,33 +1,8 @@
-use Rattle.std.proofs.Common.{◌≡◌, set, sym, refl, ap, ◌∙◌, arith}
-use Rattle.ring.specs.Arcs.{take_slot}
-use Rattle.ring.specs.Calls.{left_by}
+use Rattle.std.proofs.Common.{set, ap, ◌∙◌, arith}
 use Rattle.ring.specs.View.{arcs_of}
-use Rattle.rules.specs.Rules.{evacuate_into}
-use Rattle.heap.specs.View.{evacuation, with_ring}
-use Rattle.heap.proofs.Keeping.{kept_ring, counted_as}
-use Rattle.heap.proofs.Slots.{none_moved}
+use Rattle.heap.specs.View.{evacuation}
 use Rattle.heap.proofs.Stages.{holding, Copying, still_waiting, taken_low, copied_stage, copied_state, copied_word}
-use Rattle.heap.proofs.Visits.{shaded_stage, shaded_state}
 use Rattle.heap.proofs.heap.Heap.copy_record.Goals as goal
-
-pub returns-in_default : goal.returns-in_default
-returns-in_default g c =
-    let h = c.args.self.now in
-    let r = c.take.new.self in
-    let a = arcs_of h.ring in
-    let left = c.take.ensures.left in
-    let none = none_moved (take_slot a) c.in_default.ensures.answer in
-    let same_arcs : arcs_of r ≡ a = left.arcs_are ∙ ap (left_by a) none in
-    let i = with_ring h r h.counts in
-    let kept = kept_ring h r h.counts c.requires.sound.kept c.take.ensures.sound left.slots_kept (counted_as h r same_arcs c.requires.sound.kept.counted) in
-    record {
-      stage = shaded_stage h i c.requires.sound kept refl refl left.beyond;
-      state = shaded_state g.T.Kind h i a refl same_arcs left.open_is ∙ ap (λ t. (evacuate_into c.args.p t (evacuation g.T.Kind h)).1) (sym none);
-      word = ap (λ t. (evacuate_into c.args.p t (evacuation g.T.Kind h)).0) (sym none);
-    }
-
-pub nursery_record-record-requires : goal.nursery_record-record-requires
-nursery_record-record-requires g c = omega (arith, c.requires.used, c.requires.sound.kept.used_low, c.requires.sound.kept.long)
 
 pub put_at-requires : goal.put_at-requires
 put_at-requires g c =

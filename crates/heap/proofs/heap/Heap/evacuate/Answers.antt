@@ -1,13 +1,6 @@
 use Rattle.std.proofs.Common.{Some, None, sym, ap, ◌∙◌}
-use Rattle.heap.specs.View.{evacuation}
-use Rattle.heap.proofs.Stages.{stage_refl, forward_length, evacuated_before}
+use Rattle.heap.proofs.Stages.{stage_refl, evacuated_before}
 use Rattle.heap.proofs.heap.Heap.evacuate.Goals as goal
-
-pub returns-in_default : goal.returns-in_default
-returns-in_default g c =
-    let h = c.args.self.now in
-    let e = c.in_default.ensures (evacuation g.T.Kind h) (forward_length g.T.Kind h c.requires) in
-    record { stage = stage_refl h c.requires; state = ap (λ t. t.1) (sym e); word = ap (λ t. t.0) (sym e) }
 
 pub returns-in-Some-target : goal.returns-in-Some-target
 returns-in-Some-target g c =

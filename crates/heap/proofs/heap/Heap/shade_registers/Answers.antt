@@ -1,9 +1,9 @@
 use Rattle.std.proofs.Common.{◌<◌, get_or, ap, arith}
-use Rattle.std.proofs.lemmas.List.{length-take-le, length-take}
+use Rattle.std.proofs.lemmas.List.{length-take-le}
 use Rattle.rules.specs.Rules.{Store}
 use Rattle.heap.specs.View.{contents}
 use Rattle.heap.proofs.Carries.{carried_ring, carried_trans}
-use Rattle.heap.proofs.Cycles.{shading_more, shading_all, word_contents, register_word}
+use Rattle.heap.proofs.Cycles.{shading_more, word_contents, register_word}
 use Rattle.heap.proofs.heap.Heap.shade_registers.Goals as goal
 
 pub loop-i-preserved : goal.loop-i-preserved
@@ -24,12 +24,3 @@ loop-i-preserved g c =
           c.loop-i.invariant.1
           (word_contents g.T.Kind t u (get_or t.registers.now i 0) said.same said.arcs said.cycle),
     )
-
-pub returns : goal.returns
-returns g c =
-    let h = c.args.self.now in
-    let s = contents g.T.Kind h in
-    record {
-      carried = c.loop-i.invariant.0;
-      left = shading_all s (contents g.T.Kind c.loop-i.self) s.registers c.loop-i.i (omega (arith, length-take h.limits.registers h.registers.now)) c.loop-i.invariant.1;
-    }

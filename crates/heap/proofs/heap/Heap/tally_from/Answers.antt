@@ -27,12 +27,6 @@ returns-in_default g c =
     ∙ ap (λ j. tally_with s.store l.tally.flushes l.tally.weight (follow_words s.sizes s.store j l.w)) left
     ∙ l.invariant.0
 
-pub with-tally-requires : goal.with-tally-requires
-with-tally-requires g c = record {
-  few = omega (arith, c.loop.invariant.1, c.place_count-most.ensures.few);
-  light = omega (arith, c.loop.invariant.2, c.place_count-most.ensures.few);
-}
-
 pub loop-preserved : goal.loop-preserved
 loop-preserved g c =
     let s = view g.T.Kind c.args.self.now in
@@ -45,12 +39,3 @@ loop-preserved g c =
       omega (arith, said.few, l.invariant.1),
       omega (arith, said.light, l.invariant.2),
     )
-
-pub returns-in-Some : goal.returns-in-Some
-returns-in-Some g c =
-    let s = view g.T.Kind c.args.self.now in
-    let l = c.loop in
-    let t = c.with-tally.result in
-    let said = c.with-tally.ensures in
-    let left : suc 0 ≡ (c.place_count-most.result + 1) - l.counter = omega arith in
-    tally_turn s.sizes s.store l.tally.flushes l.tally.weight t.flushes t.weight _ 0 l.w c.link_at-w.result c.in-Some.at (g.T.Kind.plain c.record_in.result) _ c.in-Some.ensures.place (ap (λ r. r.plain) c.record_in.ensures) said.flushes said.weight c.link_at-w.ensures left l.invariant.0
