@@ -1,6 +1,7 @@
 // The colours of slots and the lengths of the arcs.
 ghost use Rattle.std.specs.Prelude.{◌≡◌, ◌+◌, ◌^◌, ◌<◌};
 ghost use Rattle.ring.specs.Count.{one_more};
+ghost use Rattle.ring.specs.Sound.{stamp_colour};
 
 // The arc in which a slot stands.
 #[derive(Clone, Copy, PartialEq, Eq, Debug)]
@@ -9,6 +10,21 @@ pub enum Colour {
     White,
     Grey,
     Black,
+}
+
+impl Colour {
+    // The colour that a stamp means in an epoch.
+    #[tactic(auto, unfolding(crate::specs::Sound::stamp_colour))]
+    pub(crate) fn of_stamp(stamp: u32, epoch: u32, cycle_open: bool) -> Colour
+        ensures { result ≡ stamp_colour cycle_open epoch stamp }
+    {
+        match i64::from(stamp) - i64::from(epoch) {
+            0 => Colour::Black,
+            1 => Colour::Grey,
+            -2 if cycle_open => Colour::White,
+            _ => Colour::Free,
+        }
+    }
 }
 
 // How many slots each arc has.

@@ -121,18 +121,7 @@ impl Ring<'_> {
         ensures value { Some result ≡ colour_in x (arcs_of self.now) }
         ensures one { OneArc (slots_of self.now) x (arcs_of self.now) (Some result) }
     {
-        let s = self.stamp[x as usize];
-        let e = self.epoch;
-        if s == e {
-            return Colour::Black;
-        }
-        if s == e + 1 {
-            return Colour::Grey;
-        }
-        if self.cycle_open && s < e && e - s == 2 {
-            return Colour::White;
-        }
-        Colour::Free
+        Colour::of_stamp(self.stamp[x as usize], self.epoch, self.cycle_open)
     }
 
     // Whether a slot has a colour.
