@@ -28,7 +28,7 @@ impl Colour {
 }
 
 // How many slots each arc has.
-#[derive(Clone, Copy, PartialEq, Eq, Debug)]
+#[derive(Clone, Copy, PartialEq, Eq, Default, Debug)]
 pub struct Lengths {
     pub free: u32,
     pub white: u32,
@@ -37,31 +37,19 @@ pub struct Lengths {
 }
 
 impl Lengths {
-    // With one more slot of a colour.
-    pub(crate) fn with(self, c: Colour) -> Lengths
-        requires free { self.free + 1 < 2 ^ 32 }
-        requires white { self.white + 1 < 2 ^ 32 }
-        requires grey { self.grey + 1 < 2 ^ 32 }
-        requires black { self.black + 1 < 2 ^ 32 }
-        ensures { result ≡ one_more c self }
+    // One more slot of a colour.
+    pub(crate) fn add(&mut self, c: Colour)
+        requires free { self.old.free + 1 < 2 ^ 32 }
+        requires white { self.old.white + 1 < 2 ^ 32 }
+        requires grey { self.old.grey + 1 < 2 ^ 32 }
+        requires black { self.old.black + 1 < 2 ^ 32 }
+        ensures { self.new ≡ one_more c self.old }
     {
         match c {
-            Colour::Free => Lengths {
-                free: self.free + 1,
-                ..self
-            },
-            Colour::White => Lengths {
-                white: self.white + 1,
-                ..self
-            },
-            Colour::Grey => Lengths {
-                grey: self.grey + 1,
-                ..self
-            },
-            Colour::Black => Lengths {
-                black: self.black + 1,
-                ..self
-            },
+            Colour::Free => self.free += 1,
+            Colour::White => self.white += 1,
+            Colour::Grey => self.grey += 1,
+            Colour::Black => self.black += 1,
         }
     }
 }

@@ -217,15 +217,10 @@ impl Ring<'_> {
         ensures value { result ≡ lengths_of (arcs_of self.now) }
         ensures sum { result.free + result.white + result.grey + result.black ≡ slots_of self.now }
     {
-        let mut counted = Lengths {
-            free: 0,
-            white: 0,
-            grey: 0,
-            black: 0,
-        };
+        let mut counted = Lengths::default();
         let mut x = self.head;
         for _ in 0..self.slots {
-            counted = counted.with(self.stamped_colour(x));
+            counted.add(self.stamped_colour(x));
             x = self.next[x as usize];
         }
         counted
