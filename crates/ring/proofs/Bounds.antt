@@ -1,5 +1,5 @@
 -- The numbers that sound tables hold are below the tables' lengths.
-use Rattle.std.proofs.Common.{◌≡◌, ℕ, ◌+◌, ◌^◌, ◌<◌, List, [], ◌∷◌, ◌++◌, length, get_or, set, sym, ap, ◌∙◌, subst, ⊎_elim, arith, w32, Fits}
+use Rattle.std.proofs.Common.{◌≡◌, ℕ, ◌+◌, ◌<◌, List, [], ◌∷◌, ◌++◌, length, get_or, set, sym, ap, ◌∙◌, subst, ⊎_elim, arith, w32, Fits}
 use Rattle.std.proofs.lemmas.List.{length-append, get_or-set_same, get_or-set_other}
 use Rattle.std.proofs.lemmas.Bool.{cases_eq}
 use Rattle.ring.specs.Arcs.{ring_of}
@@ -27,9 +27,6 @@ module _ (t : Tables) (s : Sound t) where
 
   pub in_stamp : (x : ℕ) → x < t.slots → x < length t.stamp
   in_stamp x l = omega (arith, (held t s).stamp_long)
-
-  pub epoch_room : t.epoch + 1 < 2 ^ 32
-  epoch_room = (held t s).epoch_fits
 
   pub grey_fits : Fits w32 (t.epoch + 1)
   grey_fits = omega (arith, (held t s).epoch_fits)

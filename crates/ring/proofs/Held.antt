@@ -12,19 +12,19 @@ use Rattle.ring.proofs.Chain.{hit_same, hit_other, count_append, walk_ringed}
 
 -- ---- the colour that a stamp means, by cases
 
-pub colour_black : (o : Bool) (e s : ℕ) → s ≡ e → Black ≡ stamp_colour o e s
+colour_black : (o : Bool) (e s : ℕ) → s ≡ e → Black ≡ stamp_colour o e s
 unfolding stamp_colour
 colour_black o e s h = rw (eq-eqb s e h)
 
-pub colour_grey : (o : Bool) (e s : ℕ) → s ≡ e + 1 → Grey ≡ stamp_colour o e s
+colour_grey : (o : Bool) (e s : ℕ) → s ≡ e + 1 → Grey ≡ stamp_colour o e s
 unfolding stamp_colour
 colour_grey o e s h = rw (ne_eqb s e (λ d. omega arith), eq-eqb s (e + 1) h)
 
-pub colour_white : (o : Bool) (e s : ℕ) → o ≡ true → s + 2 ≡ e → White ≡ stamp_colour o e s
+colour_white : (o : Bool) (e s : ℕ) → o ≡ true → s + 2 ≡ e → White ≡ stamp_colour o e s
 unfolding stamp_colour
 colour_white o e s l h = rw (ne_eqb s e (λ d. omega arith), ne_eqb s (e + 1) (λ d. omega arith), l, eq-eqb (s + 2) e h)
 
-pub colour_free : (o : Bool) (e s : ℕ) → (s ≡ e → ⊥) → (s ≡ e + 1 → ⊥) → (o ≡ true → s + 2 ≡ e → ⊥) → Free ≡ stamp_colour o e s
+colour_free : (o : Bool) (e s : ℕ) → (s ≡ e → ⊥) → (s ≡ e + 1 → ⊥) → (o ≡ true → s + 2 ≡ e → ⊥) → Free ≡ stamp_colour o e s
 unfolding stamp_colour
 colour_free true e s n m h = rw (ne_eqb s e n, ne_eqb s (e + 1) m, ne_eqb (s + 2) e (h refl))
 colour_free false e s n m h = rw (ne_eqb s e n, ne_eqb s (e + 1) m)

@@ -121,18 +121,7 @@ impl Ring<'_> {
         ensures value { Some result ≡ colour_in x (arcs_of self.now) }
         ensures one { OneArc (slots_of self.now) x (arcs_of self.now) (Some result) }
     {
-        let s = self.stamp[x as usize];
-        let e = self.epoch;
-        if s == e {
-            return Colour::Black;
-        }
-        if s == e + 1 {
-            return Colour::Grey;
-        }
-        if self.cycle_open && s < e && e - s == 2 {
-            return Colour::White;
-        }
-        Colour::Free
+        Colour::of_stamp(self.stamp[x as usize], self.epoch, self.cycle_open)
     }
 
     // Whether a slot has a colour.
@@ -228,15 +217,10 @@ impl Ring<'_> {
         ensures value { result ≡ lengths_of (arcs_of self.now) }
         ensures sum { result.free + result.white + result.grey + result.black ≡ slots_of self.now }
     {
-        let mut counted = Lengths {
-            free: 0,
-            white: 0,
-            grey: 0,
-            black: 0,
-        };
+        let mut counted = Lengths::default();
         let mut x = self.head;
         for _ in 0..self.slots {
-            counted = counted.with(self.stamped_colour(x));
+            counted.add(self.stamped_colour(x));
             x = self.next[x as usize];
         }
         counted
