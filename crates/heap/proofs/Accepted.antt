@@ -30,11 +30,6 @@ index_found e n (negsuc k) i h = absurd (let z : ◌≡◌ {A = ℕ} 0 1 = cc in
 pub index_tells : (e : StoreFault) (n : ℕ) (r : ℤ) (i : ℕ) → SFits w64 r → Ok i ≡ index_or e n (to_z w64 (of_z w64 r)) → (in_range r n ≡ true) × ((i ≡ index r) × (i < n))
 index_tells e n r i fits h = index_found e n r i (h ∙ ap (index_or e n) (to_z-of_z w64 r fits))
 
--- what an open store tells
-pub open_tells : {U : Type 0} (s : Result U StoreFault) (u : U) → Ok u ≡ ready_at s → told_why s ≡ 0
-open_tells (Ok v) u h = refl
-open_tells (Err e) u h = absurd (let z : ◌≡◌ {A = ℕ} 0 1 = cc in omega arith)
-
 -- what a place that is found, or is not found, tells
 pub found_tells : (o : Option Place) (at : Place) → Ok at ≡ found_at o → o ≡ Some at
 found_tells (Some p) at h = cc

@@ -1,13 +1,11 @@
 -- A new store: tables that are long enough, and the ring that begins in them.
-use Rattle.std.proofs.Common.{◌≡◌, ℕ, zero, suc, ◌+◌, ◌≤◌, Bool, true, false, leb, List, [], length, replicate, sym, refl, ap, arith}
+use Rattle.std.proofs.Common.{◌≡◌, ℕ, zero, suc, ◌+◌, ◌≤◌, true, leb, List, length, sym, refl, ap, arith}
 use Rattle.std.proofs.lemmas.Bool.{and_parts}
 use Rattle.std.proofs.lemmas.Bool.Decides.{nat_tests}
 use Rattle.ring.specs.Arcs.{Arcs, upto, new_arcs}
 use Rattle.ring.specs.View.{Kept as Left}
-use Rattle.rules.specs.Rules.{Record, Sizes, new_store}
 use Rattle.heap.specs.declared.heap.tables.Tables.{Tables}
 use Rattle.heap.specs.Opening.{tables_long}
-use Rattle.registers.specs.State.{State}
 use Rattle.heap.specs.View.{Rest}
 
 -- the test of the tables, each by itself
@@ -49,7 +47,3 @@ all_free n a e = omega (arith, ap (λ x. length x.free) e, length_upto 0 n)
 
 pub no_white : (n : ℕ) (a : Arcs) → a ≡ new_arcs n → 0 ≡ length a.white
 no_white n a e = sym (ap (λ x. length x.white) e)
-
--- the parts of a new store
-pub new_state : (why : ℕ) (z : Sizes) (o : List Record) (rs : List ℕ) (a : Arcs) (c : Bool) → rs ≡ replicate z.registers 0 → a ≡ new_arcs z.slots → c ≡ false → ◌≡◌ {A = State} (record { why = why; sizes = z; store = record { registers = rs; nursery = []; slots = o; arcs = a; notes = []; cycle = c } }) (record { why = why; sizes = z; store = new_store z o })
-new_state why z o rs a c e f g = cc

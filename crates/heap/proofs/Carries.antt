@@ -1,19 +1,15 @@
 -- What a call keeps, step by step, and what a change of the ring alone leaves.
 use Rattle.std.proofs.Common.{◌≡◌, Bool, sym, refl, ap, ◌∙◌, subst}
 use Rattle.ring.specs.Arcs.{Arcs}
-use Rattle.ring.specs.View.{Beyond, Fine, Leaves, arcs_of, slots_of, is_open_of}
+use Rattle.ring.specs.View.{Beyond, arcs_of, slots_of, is_open_of}
 use Rattle.ring.specs.declared.ring.Ring.{Ring}
 use Rattle.rules.specs.Rules.{with_arcs, with_cycle}
 use Rattle.kinds.specs.declared.kind.Kind.{Ghosts}
 use Rattle.heap.specs.declared.counts.Counts.{Counts}
 use Rattle.heap.specs.declared.heap.Heap.{Heap}
 use Rattle.heap.specs.Carrying.{Carried}
-use Rattle.heap.specs.View.{Kept, Frame, Counted, contents, with_ring}
-use Rattle.heap.proofs.Framing.{rest_refl, frame_refl, frame_trans}
-use Rattle.heap.proofs.Keeping.{kept_ring}
-
-pub carried_refl : {X B : Type 0} (h : Heap X B) → Kept h → Carried h h
-carried_refl h k = record { kept = k; sound = λ s. s; frame = frame_refl h }
+use Rattle.heap.specs.View.{Kept, Frame, contents, with_ring}
+use Rattle.heap.proofs.Framing.{rest_refl, frame_trans}
 
 pub carried_trans : {X B : Type 0} (a b c : Heap X B) → Carried a b → Carried b c → Carried a c
 carried_trans a b c f g = record { kept = g.kept; sound = λ s. g.sound (f.sound s); frame = frame_trans a b c f.frame g.frame }
@@ -46,11 +42,3 @@ carried_ring h i before after same waiting beyond =
 pub ring_contents : {X B : Type 0} (g : Ghosts X) (h i : Heap X B) (a : Arcs) (o : Bool) → i ≡ with_ring h i.ring i.counts → arcs_of i.ring ≡ a → is_open_of i.ring ≡ o → contents g i ≡ with_cycle o (with_arcs a (contents g h))
 ring_contents g h i a o same arcs_are open_is =
     ap (contents g) same ∙ ap (λ x. with_cycle (is_open_of i.ring) (with_arcs x (contents g h))) arcs_are ∙ ap (λ x. with_cycle x (with_arcs a (contents g h))) open_is
-
--- the ring as one of its calls left it, with counts to match
-pub ring_carried : {X B : Type 0} (h : Heap X B) (r : Ring) (k : Counts) (a : Arcs) (o : Bool) → Kept h → Fine r → Leaves h.ring r a o → Counted (with_ring h r k) → k.nursery ≡ h.counts.nursery → Carried h (with_ring h r k)
-ring_carried h r k a o kept fine leaves counted waiting =
-    carried_ring h (with_ring h r k) kept (kept_ring h r k kept fine leaves.slots_kept counted) (refl {a = with_ring h r k}) waiting leaves.beyond
-
-pub ring_left : {X B : Type 0} (g : Ghosts X) (h : Heap X B) (r : Ring) (k : Counts) (a : Arcs) (o : Bool) → Leaves h.ring r a o → contents g (with_ring h r k) ≡ with_cycle o (with_arcs a (contents g h))
-ring_left g h r k a o leaves = ring_contents g h (with_ring h r k) a o (refl {a = with_ring h r k}) leaves.arcs_are leaves.open_is

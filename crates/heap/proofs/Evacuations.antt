@@ -1,12 +1,12 @@
 -- Evacuation: the forwarding table, row by row.
-use Rattle.std.proofs.Common.{◌≡◌, ℕ, zero, suc, ◌+◌, ◌<◌, ◌≤◌, Bool, true, false, ◌||◌, eqb, List, [], ◌∷◌, ◌++◌, map, length, get_or, take, set, replicate, Some, None, Option, sym, refl, ap, ◌∙◌, subst, arith, length-set, eq-eqb}
-use Rattle.std.proofs.lemmas.List.{replicate_more}
+use Rattle.std.proofs.Common.{◌≡◌, ℕ, zero, suc, ◌+◌, ◌-◌, ◌<◌, ◌≤◌, Bool, true, false, ◌||◌, eqb, List, [], ◌∷◌, ◌++◌, map, length, get_or, take, drop, set, replicate, Some, None, Option, sym, refl, ap, ◌∙◌, subst, arith, length-set, eq-eqb}
+use Rattle.std.proofs.lemmas.List.{drop-drop}
+use Rattle.registers.proofs.Opens.{filled}
 use Rattle.ring.specs.Arcs.{Arcs, has, ring_of, take_slot}
 use Rattle.ring.specs.Calls.{taken_slot, taken_arcs}
 use Rattle.heap.specs.declared.rows.Forward.{Forward}
 use Rattle.heap.specs.View.{front, Rest, no_forward, unmoved, BelowIf}
 use Rattle.heap.proofs.Fronts.{front_set, front_at, front_push}
-use Rattle.heap.proofs.Framing.{rest_refl, rest_set, rest_trans}
 
 -- a write that leaves the meaning of the entry
 pub front_same : {X Y : Type 0} (f : X → Y) (n : ℕ) (xs : List X) (i : ℕ) (x d : X) → f x ≡ f (get_or xs i d) → front f n (set xs i x) ≡ front f n xs
@@ -20,14 +20,26 @@ pub record Cleared (n : ℕ) (was is : List Forward) : Type 0 where
   pub none : front (λ f. f.target) n is ≡ replicate n None
   pub others : (m : ℕ) → n ≤ m → Rest m was is
 
-pub cleared_none : (xs : List Forward) → Cleared 0 xs xs
-cleared_none xs = record { none = refl; others = λ m h. rest_refl m xs }
+abbrev pub blank : Forward
+blank = record { target = None; copied = 0 }
 
-pub cleared_more : (n k : ℕ) (xs ys : List Forward) → n < length ys → Cleared n xs ys → Cleared (n + 1) xs (set ys n (record { target = None; copied = k }))
-cleared_more n k xs ys h c = record {
-  none = front_push (λ f. f.target) n ys (record { target = None; copied = k }) h ∙ ap (λ fs. fs ++ (None ∷ [])) c.none ∙ replicate_more n None;
-  others = λ m low. rest_trans m m xs ys _ refl (c.others m (omega arith)) (rest_set m ys n _ (omega arith));
-}
+no_targets : (n : ℕ) → map (λ (r : Forward). r.target) (replicate n blank) ≡ replicate n None
+no_targets zero = refl
+no_targets (suc n) = ap (λ fs. None ∷ fs) (no_targets n)
+
+rest_from : (m n : ℕ) (was is : List Forward) → n ≤ m → drop n is ≡ drop n was → drop m is ≡ drop m was
+rest_from m n was is low same =
+    let j = m - n in
+    let from : n + j ≡ m = omega arith in
+    ap (λ k. drop k is) (sym from) ∙ sym (drop-drop j n is) ∙ ap (drop j) same ∙ drop-drop j n was ∙ ap (λ k. drop k was) from
+
+pub cleared : (n : ℕ) (was xs : List Forward) → n ≤ length was → length xs ≡ length (take n was) → xs ≡ replicate (length (take n was)) blank → Cleared n was (xs ++ drop n was)
+cleared n was xs low long is =
+    let f = filled n was xs blank low long is in
+    record {
+      none = ap (map (λ (r : Forward). r.target)) f.front ∙ no_targets n;
+      others = λ m h. record { rest = rest_from m n was _ h f.rest; size = f.size };
+    }
 
 -- row p leads to slot q, and row i has q as the i-th slot taken
 abbrev pub row_to : List Forward → ℕ → ℕ → List Forward
@@ -44,9 +56,6 @@ pub forwarded_queue : (xs : List Forward) (p i q : ℕ) → i < length xs → fr
 forwarded_queue xs p i q h =
     front_push (λ f. f.copied) i (row_to xs p q) _ (omega (arith, length-set xs p (record { target = Some q; copied = (get_or xs p no_forward).copied })))
     ∙ ap (λ qs. qs ++ (q ∷ [])) (front_same (λ f. f.copied) i xs p _ no_forward refl)
-
-pub forwarded_rest : (xs : List Forward) (p i q m : ℕ) → p < m → i < m → Rest m xs (row_queued (row_to xs p q) i q)
-forwarded_rest xs p i q m a b = rest_trans m m xs (row_to xs p q) _ refl (rest_set m xs p _ a) (rest_set m (row_to xs p q) i _ b)
 
 -- a record copied: one less wants a slot
 pub unmoved_less : (fs : List (Option ℕ)) (p q : ℕ) → p < length fs → get_or fs p None ≡ None → unmoved (set fs p (Some q)) + 1 ≡ unmoved fs

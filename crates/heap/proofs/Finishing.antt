@@ -1,10 +1,10 @@
 -- As many scans as there are slots leave no slot grey, so that a cycle closes after them.
-use Rattle.std.proofs.Common.{◌≡◌, ℕ, zero, suc, ◌+◌, ◌≤◌, Bool, true, false, cond, List, [], ◌∷◌, ◌++◌, length, get_or, refl, ap, ◌∙◌, arith}
+use Rattle.std.proofs.Common.{◌≡◌, ℕ, zero, suc, ◌+◌, ◌≤◌, false, cond, List, [], ◌∷◌, ◌++◌, length, get_or, refl, ap, ◌∙◌, arith}
 use Rattle.std.proofs.lemmas.List.{length-append}
 use Rattle.ring.specs.Arcs.{Arcs, split_last, scan_from, close_arcs}
 use Rattle.ring.specs.View.{arcs_of, slots_of, LinkedRing}
 use Rattle.ring.proofs.Facts.{fine_linked}
-use Rattle.rules.specs.Rules.{Record, Store, no_record, with_arcs, with_cycle, shade_all, scan_taken, scan_next, scan_upto, scan_and_close, freed_after, freed_by_close, is_empty}
+use Rattle.rules.specs.Rules.{Record, Store, no_record, with_arcs, with_cycle, shade_all, scan_taken, scan_next, scan_upto, scan_and_close, is_empty}
 use Rattle.rules.proofs.Counting.{length_split_last}
 use Rattle.rules.proofs.Shading.{shaded_all}
 use Rattle.kinds.specs.declared.kind.Kind.{Ghosts}
@@ -37,26 +37,6 @@ none_grey slots (suc k) a h = go a.grey refl (none_grey slots k)
     go [] e more = e
     go (x ∷ xs) e more = more (scanned slots a x xs) (omega (arith, fewer slots a x xs e))
 
--- scans leave no more slots to scan
-fewer_all : (slots : List Record) (k : ℕ) (a : Arcs) → unscanned (scan_upto slots k a).0 ≤ unscanned a
-fewer_all slots zero a = omega arith
-fewer_all slots (suc k) a = go a.grey refl (fewer_all slots k)
-  where
-    go : (gs : List ℕ) → a.grey ≡ gs → ((b : Arcs) → unscanned (scan_upto slots k b).0 ≤ unscanned b) → unscanned (scan_next (scan_taken slots (scan_from gs a)) (scan_upto slots k) a).0 ≤ unscanned a
-    go [] e more = omega arith
-    go (x ∷ xs) e more = omega (arith, fewer slots a x xs e, more (scanned slots a x xs))
-
-freed_most : (a : Arcs) → freed_by_close a ≤ unscanned a
-freed_most a = go (is_empty a.grey)
-  where
-    go : (t : Bool) → cond t (length a.white) 0 ≤ unscanned a
-    go true = omega arith
-    go false = omega arith
-
--- no more are freed
-freed_few : (s : Store) (k : ℕ) → freed_after k s ≤ unscanned s.arcs
-freed_few s k = omega (arith, freed_most (scan_upto s.slots k s.arcs).0, fewer_all s.slots k s.arcs)
-
 -- the cycle closes
 closes : (s : Store) (k : ℕ) → unscanned s.arcs ≤ k → (scan_and_close k s).cycle ≡ false
 closes s k h =
@@ -75,6 +55,3 @@ few_unscanned g h kept =
 -- with as many scans as a heap has slots
 pub finish_shut : {X B : Type 0} (g : Ghosts X) (h k : Heap X B) (n : ℕ) → Kept h → n ≡ h.limits.slots → contents g k ≡ scan_and_close n (contents g h) → (contents g k).cycle ≡ false
 finish_shut g h k n kept is left = ap (λ s. s.cycle) left ∙ closes (contents g h) n (omega (arith, few_unscanned g h kept, is))
-
-pub finish_freed : {X B : Type 0} (g : Ghosts X) (h : Heap X B) (n f : ℕ) → Kept h → f ≡ freed_after n (contents g h) → f ≤ h.limits.slots
-finish_freed g h n f kept is = omega (arith, few_unscanned g h kept, freed_few (contents g h) n, is)

@@ -1,12 +1,11 @@
 -- Where words lead, and the used places of the nursery.
-use Rattle.std.proofs.Common.{◌≡◌, ℕ, ◌<◌, true, false, cond, List, map, length, get_or, take, set, Some, None, sym, ap, ◌∙◌, arith}
+use Rattle.std.proofs.Common.{◌≡◌, ℕ, ◌<◌, true, List, map, length, get_or, take, set, sym, ap, ◌∙◌, arith}
 use Rattle.std.proofs.lemmas.List.{get_or-take, take-map}
 use Rattle.std.proofs.lemmas.Bool.Decides.{nat_tests}
-use Rattle.words.specs.Words.{place_of}
 use Rattle.words.specs.declared.place.Place.{Place}
 use Rattle.words.specs.declared.place.Place.TheVariants.{Young, Old}
 use Rattle.kinds.specs.declared.kind.Kind.{Ghosts}
-use Rattle.rules.specs.Rules.{Record, Sizes, no_record, with_nursery, with_slots, record_at, put_record, in_store, place_in}
+use Rattle.rules.specs.Rules.{Record, no_record, with_nursery, with_slots, record_at, put_record}
 use Rattle.heap.specs.declared.heap.Heap.{Heap}
 use Rattle.heap.specs.Answers.{is_within, Within}
 use Rattle.heap.specs.View.{Sound, front, contents}
@@ -16,21 +15,6 @@ use Rattle.heap.specs.Meaning.{meaning_of}
 -- the nursery of the rules has as many records as places are used
 pub nursery_length : {X B : Type 0} (g : Ghosts X) (h : Heap X B) → Sound h → length (contents g h).nursery ≡ h.used
 nursery_length g h s = length_front (meaning_of g) h.used h.nursery.now (omega (arith, s.kept.used_low, s.kept.long.1))
-
--- a word that leads to a place of the store, and one that leads outside it
-inside : (z : Sizes) (n : ℕ) (at : Place) → is_within n z.slots at ≡ true → Some at ≡ in_store z n (Some at)
-inside z n (Young p) h = ap (λ t. cond t (Some (Young p)) None) (sym h)
-inside z n (Old q) h = ap (λ t. cond t (Some (Old q)) None) (sym h)
-
-outside : (z : Sizes) (n : ℕ) (at : Place) → is_within n z.slots at ≡ false → None ≡ in_store z n (Some at)
-outside z n (Young p) h = ap (λ t. cond t (Some (Young p)) None) (sym h)
-outside z n (Old q) h = ap (λ t. cond t (Some (Old q)) None) (sym h)
-
-pub place_found : (z : Sizes) (used n w : ℕ) (at : Place) → n ≡ used → Some at ≡ place_of w → is_within used z.slots at ≡ true → Some at ≡ place_in z n w
-place_found z used n w at e f h = inside z used at h ∙ ap (in_store z used) f ∙ ap (λ m. place_in z m w) (sym e)
-
-pub place_lost : (z : Sizes) (used n w : ℕ) (at : Place) → n ≡ used → Some at ≡ place_of w → is_within used z.slots at ≡ false → None ≡ place_in z n w
-place_lost z used n w at e f h = outside z used at h ∙ ap (in_store z used) f ∙ ap (λ m. place_in z m w) (sym e)
 
 pub within : (used slots : ℕ) (at : Place) → is_within used slots at ≡ true → Within used slots at
 within used slots (Young p) h = grind (arith, nat_tests)

@@ -10,8 +10,6 @@ pub mod Opens
 pub mod Found
 pub mod Linking
 pub mod Named
-pub mod Replacing
-pub mod Rooms
 pub mod Evacuations
 pub mod Stages
 pub mod Visits
@@ -22,5 +20,4 @@ pub mod Writes
 pub mod SameCycle
 pub mod Collections
 pub mod Finishing
-pub mod Parts
 pub mod Tallying

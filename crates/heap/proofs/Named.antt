@@ -1,17 +1,9 @@
 -- Lists of registers: each in range, and the words in them.
-use Rattle.std.proofs.Common.{◌≡◌, ℕ, zero, suc, ◌+◌, ◌<◌, ◌≤◌, Bool, true, false, ◌&&◌, List, [], ◌∷◌, length, get_or, drop, ℤ, pos, negsuc, ◌≤ℤ◌, refl, ap, ◌∙◌, arith}
-use Rattle.std.proofs.lemmas.List.{at_drop_more, at_drop_all}
+use Rattle.std.proofs.Common.{◌≡◌, ℕ, zero, suc, ◌<◌, Bool, true, false, List, [], ◌∷◌, length, get_or, ℤ, pos, negsuc, ◌≤ℤ◌, refl, arith}
 use Rattle.std.proofs.lemmas.Int.{ints}
 use Rattle.std.proofs.lemmas.Bool.{and_parts}
 use Rattle.std.proofs.lemmas.Bool.Decides.{nat_tests}
 use Rattle.rules.specs.Rules.{Store, in_range, index, all_in, reg, links_from}
-
--- from register i on: the first decides, or all after it
-pub all_in_more : (rs : List ℤ) (n i : ℕ) (t : Bool) → i < length rs → in_range (get_or rs i (pos 0)) n ≡ t → all_in (drop i rs) n ≡ (t && all_in (drop (i + 1) rs) n)
-all_in_more rs n i t low e = at_drop_more (λ xs. all_in xs n) rs i (pos 0) low ∙ ap (λ u. u && all_in (drop (i + 1) rs) n) e
-
-pub all_in_all : (rs : List ℤ) (n i : ℕ) → length rs ≤ i → all_in (drop i rs) n ≡ true
-all_in_all rs n i h = at_drop_all (λ xs. all_in xs n) rs i h
 
 -- each is in range
 pub all_in_at : (rs : List ℤ) (n k : ℕ) → all_in rs n ≡ true → k < length rs → in_range (get_or rs k (pos 0)) n ≡ true

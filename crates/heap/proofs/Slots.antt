@@ -1,7 +1,7 @@
 -- Slots of the ring and lengths of its arcs.
-use Rattle.std.proofs.Common.{◌≡◌, ℕ, suc, ◌+◌, ◌<◌, Bool, true, false, cond, ◌||◌, eqb, List, [], ◌∷◌, length, get_or, Some, None, Option, refl, subst, arith}
+use Rattle.std.proofs.Common.{◌≡◌, ℕ, suc, ◌<◌, Bool, true, false, ◌||◌, eqb, List, [], ◌∷◌, length, get_or, Some, None, Option, refl, subst, arith}
 use Rattle.std.proofs.lemmas.Bool.Decides.{nat_tests}
-use Rattle.ring.specs.Arcs.{Arcs, has, without, shade_slot, Linked}
+use Rattle.ring.specs.Arcs.{Arcs, has, Linked}
 use Rattle.ring.specs.Calls.{moved_slot}
 
 -- a slot in a list stands at an index
@@ -19,26 +19,6 @@ linked_below next prev n q ring l h =
     let (i, (low, is)) = has_index q ring h in
     let at : get_or ring i 0 < n = l.within i (subst (λ m. i < m) l.size low) in
     omega (arith, is, at)
-
--- one slot less
-pub length_without : (q : ℕ) (xs : List ℕ) → has q xs ≡ true → length (without q xs) + 1 ≡ length xs
-length_without q [] h = absurd (let z : ◌≡◌ {A = Bool} false true = h in let k : ◌≡◌ {A = ℕ} 0 1 = cc in omega arith)
-length_without q (x ∷ xs) h = go (length_without q xs) (eqb x q) refl h
-  where
-    go : (has q xs ≡ true → length (without q xs) + 1 ≡ length xs) → (t : Bool) → eqb x q ≡ t → (t || has q xs) ≡ true → length (cond t xs (x ∷ without q xs)) + 1 ≡ length (x ∷ xs)
-    go rest true e f = omega arith
-    go rest false e f = omega (arith, rest f)
-
--- shading a white slot: the free arc stays, the white one loses a slot
-pub shaded_free : (q : ℕ) (a : Arcs) → has q a.white ≡ true → (shade_slot q a).free ≡ a.free
-shaded_free q a h = rw h
-
-pub shaded_white : (q : ℕ) (a : Arcs) → has q a.white ≡ true → length (shade_slot q a).white + 1 ≡ length a.white
-shaded_white q a h = rw h (length_without q a.white h)
-
--- shading another slot leaves the arcs as they are
-pub unshaded : (q : ℕ) (a : Arcs) → has q a.white ≡ false → shade_slot q a ≡ a
-unshaded q a h = rw h
 
 -- a step of the ring that moves no slot
 pub none_moved : (o : Option (ℕ × Arcs)) → None ≡ moved_slot o → o ≡ None

@@ -5,13 +5,13 @@ use Rattle.ring.specs.Arcs.{Arcs, has, ring_of, take_slot}
 use Rattle.ring.specs.Calls.{taken_slot, taken_arcs}
 use Rattle.ring.specs.View.{Fine, slots_of, Beyond, Leaves, arcs_of, is_open_of}
 use Rattle.ring.specs.declared.ring.Ring.{Ring}
-use Rattle.rules.specs.Rules.{Record, Evacuation, no_record, begin_evacuation, evacuate_into, evacuate_to, evacuated}
+use Rattle.rules.specs.Rules.{Record, Evacuation, no_record, evacuate_into, evacuate_to, evacuated}
 use Rattle.words.specs.Words.{slot_word}
 use Rattle.heap.specs.declared.counts.Counts.{Counts}
 use Rattle.heap.specs.declared.heap.Heap.{Heap}
 use Rattle.heap.specs.declared.rows.Forward.{Forward}
 use Rattle.heap.specs.Meaning.{meaning_of}
-use Rattle.heap.specs.View.{front, contents, evacuation, Kept, Sound, Evacuating, Counted, BelowIf, Rest, Frame, no_forward, unmoved}
+use Rattle.heap.specs.View.{front, evacuation, Kept, Sound, Evacuating, Counted, BelowIf, Rest, Frame, no_forward, unmoved}
 use Rattle.heap.specs.Evacuating.{Stage}
 use Rattle.heap.proofs.Fronts.{front_set, front_at, length_front}
 use Rattle.heap.proofs.Framing.{rest_refl, rest_set, beyond_refl, frame_refl, frame_trans}
@@ -99,11 +99,6 @@ begun_stage h f s none rest =
     (omega (arith, s.waiting))
     (λ p low. subst (BelowIf h.limits.slots) (ap (λ fs. get_or fs p None) (sym none) ∙ row_target h.used p f.now low long) (below_none h.limits.slots h.used p))
     (λ i low. absurd (omega arith))
-
-pub begun_state : {X B : Type 0} (g : Ghosts X) (h : Heap X B) (f : MutBor (List Forward)) → Sound h → front (λ x. x.target) h.used f.now ≡ replicate h.used None → evacuation g (written h h.registers h.slots f h.ring h.counts 0) ≡ begin_evacuation (contents g h)
-begun_state g h f s none =
-    ap (λ fs. record { store = contents g h; forward = fs; copied = [] })
-    (none ∙ ap (λ n. replicate n None) (sym (length_front (meaning_of g) h.used h.nursery.now (omega (arith, s.kept.used_low, s.kept.long)))))
 
 -- the parts of an evacuation, one by one
 abbrev pub of_parts : List ℕ → List Record → List Record → Arcs → List ℕ → Bool → List (Option ℕ) → List ℕ → Evacuation

@@ -1,17 +1,11 @@
 -- Tally: a chain followed word by word, and what it adds up to.
-use Rattle.std.proofs.Common.{◌≡◌, ℕ, zero, suc, ◌+◌, Bool, true, false, cond, eqb, ◌⊎◌, List, [], ◌∷◌, get_or, ℤ, Some, None, Ok, Err, Option, Result, sym, refl, ap, ◌∙◌, inl, inr, add-zero, add_assoc, zero-add, arith, w64, SFits, to_z, of_z}
-use Rattle.std.proofs.lemmas.Int.{to_z-of_z}
+use Rattle.std.proofs.Common.{◌≡◌, ℕ, zero, suc, ◌+◌, cond, eqb, ◌⊎◌, List, [], ◌∷◌, ℤ, Some, None, Option, sym, refl, ap, ◌∙◌, inl, inr, add-zero, add_assoc, zero-add, arith}
 use Rattle.words.specs.declared.place.Place.{Place}
-use Rattle.kinds.specs.Faults.{store_refusal}
-use Rattle.kinds.specs.declared.fault.StoreFault.{StoreFault}
-use Rattle.kinds.specs.declared.fault.StoreFault.TheVariants.{NoSuchRegister, Closed}
-use Rattle.rules.specs.Rules.{Sizes, Store, Answer, refused, counts, in_range, index, reg, record_at}
+use Rattle.rules.specs.Rules.{Sizes, Store, Answer, refused, counts, reg, record_at}
 use Rattle.rules.specs.Chains.{leads, first_link, follow, stops, then_on, onto_chain, flushes, flush_weight, parts_at, all_places, tally_of, tally_answer, run_tally}
 use Rattle.rules.proofs.Following.{followed_to_the_end}
-use Rattle.registers.specs.Answers.{told_why, open_register}
 use Rattle.registers.specs.State.{State}
 use Rattle.heap.specs.Tallies.{ChainOf, ByChain, answer_tally, flush_count, flush_share, follow_words, tally_with}
-use Rattle.heap.proofs.Refusing.{not_zero}
 
 -- for n records more, n + 1 words are looked at
 pub follow_is : (z : Sizes) (s : Store) (n w : ℕ) → follow z s n w ≡ follow_words z s (suc n) w
@@ -60,30 +54,6 @@ tally_turn z s n g n₁ g₁ j k w w₁ p part a at is hn hg hw hk e =
 -- the chain of register r, as far as it is followed
 abbrev followed : State → ℤ → Option (List Place)
 followed s r = follow s.sizes s.store (all_places s.sizes s.store) (reg s.store r)
-
--- a store that is open and has the register
-pub tally_run : (s : State) (r : ℤ) (i w : ℕ) (a : Answer) → s.why ≡ 0 → in_range r s.sizes.registers ≡ true → i ≡ index r → w ≡ get_or s.store.registers i 0 → a ≡ tally_answer s.store (follow s.sizes s.store (all_places s.sizes s.store) w) → a ≡ answer_tally s r
-tally_run s r i w a is_open within hi hw e =
-    e
-    ∙ ap (λ x. tally_answer s.store (follow s.sizes s.store (all_places s.sizes s.store) x)) (hw ∙ ap (λ x. get_or s.store.registers x 0) hi)
-    ∙ ap (λ t. cond t (tally_answer s.store (followed s r)) (refused 3)) (sym within)
-    ∙ ap (λ y. cond (eqb y 0) (run_tally s.sizes s.store r) (refused 20)) (sym is_open)
-
--- one that is closed or has not the register
-pub tally_refused : {U : Type 0} (s : State) (r : ℤ) (status : Result U StoreFault) (e : StoreFault) → SFits w64 r → s.why ≡ told_why status → Err e ≡ open_register status s.sizes.registers (to_z w64 (of_z w64 r)) → refused (store_refusal e) ≡ answer_tally s r
-tally_refused s r (Err f) e fits why_is h =
-    let same : e ≡ Closed = cc in
-    ap (λ x. refused (store_refusal x)) same
-    ∙ ap (λ t. cond t (run_tally s.sizes s.store r) (refused 20)) (sym (ap (λ n. eqb n 0) why_is ∙ not_zero f))
-tally_refused s r (Ok u) e fits why_is h = go (in_range r s.sizes.registers) refl (h ∙ ap (open_register (Ok u) s.sizes.registers) (to_z-of_z w64 r fits))
-  where
-    go : (t : Bool) → in_range r s.sizes.registers ≡ t → Err e ≡ cond t (Ok (index r)) (Err NoSuchRegister) → refused (store_refusal e) ≡ answer_tally s r
-    go true is f = absurd (let z : ◌≡◌ {A = ℕ} 0 1 = cc in omega arith)
-    go false is f =
-        let same : e ≡ NoSuchRegister = cc in
-        ap (λ x. refused (store_refusal x)) same
-        ∙ ap (λ t. cond t (tally_answer s.store (followed s r)) (refused 3)) (sym is)
-        ∙ ap (λ y. cond (eqb y 0) (run_tally s.sizes s.store r) (refused 20)) (sym why_is)
 
 -- the answer is that of the chain, since a chain is followed to its end exactly where it has one
 pub by_chain : (s : State) (r : ℤ) (a : Answer) → a ≡ answer_tally s r → ByChain s r a

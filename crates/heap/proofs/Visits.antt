@@ -5,25 +5,16 @@ use Rattle.std.proofs.lemmas.Bool.{lt-ltb, le-ltb}
 use Rattle.kinds.specs.declared.kind.Kind.{Ghosts}
 use Rattle.ring.specs.Arcs.{Arcs}
 use Rattle.ring.specs.View.{Beyond, arcs_of, is_open_of}
-use Rattle.rules.specs.Rules.{Barrier, Store, Evacuation, no_record, with_arcs, with_cycle, with_registers, with_slots, with_link, link_at, set_link, evacuated, visit_registers, visit_links, visit_noted, visit_copied, rescanning, begin_evacuation, visit_all}
-use Rattle.heap.specs.declared.counts.Counts.{Counts}
+use Rattle.rules.specs.Rules.{Store, Evacuation, no_record, with_arcs, with_cycle, with_registers, with_slots, with_link, set_link, evacuated, visit_links, visit_noted, visit_copied}
 use Rattle.heap.specs.declared.heap.Heap.{Heap}
 use Rattle.heap.specs.declared.rows.Note.{Note}
 use Rattle.heap.specs.Meaning.{meaning_of}
-use Rattle.heap.specs.View.{front, contents, evacuation, sizes_of_heap, Kept, Sound, Evacuating, Rest, Frame, BelowIf, noted_slot, no_forward, unmoved, with_ring}
+use Rattle.heap.specs.View.{front, contents, evacuation, Kept, Evacuating, BelowIf, noted_slot, no_forward, unmoved, with_ring}
 use Rattle.heap.specs.Evacuating.{Stage, shade_visited}
 use Rattle.heap.proofs.Fronts.{take_set_any, length_front, front_at}
-use Rattle.heap.proofs.Framing.{rest_refl, beyond_refl}
 use Rattle.heap.proofs.Carries.{carried_ring}
 use Rattle.heap.proofs.Evacuations.{row_copied}
-use Rattle.heap.proofs.Stages.{written, stage_within, stage_trans, stage_refl}
-
--- a part that writes only registers and slots
-pub tables_stage : {X B : Type 0} (h : Heap X B) (w : MutBor (List ℕ)) (s : MutBor (List X)) → Evacuating h → Rest h.limits.registers h.registers.now w.now → Rest h.limits.slots h.slots.now s.now → Stage h (written h w s h.forward h.ring h.counts h.copied)
-tables_stage h w s e registers slots =
-    stage_within h w s h.forward h.ring h.counts h.copied e.kept
-    (record { registers_rest = registers; slots_rest = slots; forward_rest = rest_refl _ _; fine = e.kept.fine; same_slots = refl; ring_rest = beyond_refl _; counted = e.kept.counted })
-    e.waiting e.moved e.targets e.queued
+use Rattle.heap.proofs.Stages.{written, stage_trans, stage_refl}
 
 -- a word put into a register, or into a link of a slot
 abbrev pub with_register : ℕ → ℕ → Evacuation → Evacuation
@@ -43,9 +34,6 @@ visited rescan put held w v c c₁ c₂ c₃ read state word write shaded =
 -- one of the first n records, and its link read and replaced
 front_record : {X : Type 0} (g : Ghosts X) (n q : ℕ) (xs : List X) → q < n → get_or (map (meaning_of g) xs) q no_record ≡ get_or (front (meaning_of g) n xs) q no_record
 front_record g n q xs low = sym (get_or-take n (map (meaning_of g) xs) q no_record low) ∙ ap (λ rs. get_or rs q no_record) (take-map (meaning_of g) n xs)
-
-pub front_link : {X : Type 0} (g : Ghosts X) (n q k w : ℕ) (xs : List X) → q < n → w ≡ link_at (map (meaning_of g) xs) q k → w ≡ link_at (front (meaning_of g) n xs) q k
-front_link g n q k w xs low e = e ∙ ap (λ r. get_or r.links k 0) (front_record g n q xs low)
 
 front_set_link : {X : Type 0} (g : Ghosts X) (n q k v : ℕ) (xs ys : List X) → q < n → map (meaning_of g) ys ≡ set_link (map (meaning_of g) xs) q k v → front (meaning_of g) n ys ≡ set_link (front (meaning_of g) n xs) q k v
 front_set_link g n q k v xs ys low e =
@@ -122,66 +110,6 @@ pub copied_end : (rescan : Bool) (n i m : ℕ) (c : Evacuation) → length c.cop
 copied_end rescan n i zero c high = refl
 copied_end rescan n i (suc m) c high =
     ap (λ t. cond t (visit_copied rescan n (suc i) m (visit_links rescan (get_or c.copied i 0) 0 n c)) c) (sym (le-ltb i (length c.copied) high))
-
--- a heap whose nursery and notes are empty
-abbrev pub emptied : {X B : Type 0} → Heap X B → Counts → Heap X B
-emptied h c = record { nursery = h.nursery; slots = h.slots; registers = h.registers; forward = h.forward; notes = h.notes; ring = h.ring; limits = h.limits; counts = c; used = 0; noted = 0; copied = h.copied; status = h.status; barrier = h.barrier }
-
-pub emptied_sound : {X B : Type 0} (h : Heap X B) (c : Counts) → Kept h → (c.slots ≡ h.counts.slots) × (c.occupied ≡ h.counts.occupied) × (c.white ≡ h.counts.white) × (c.nursery ≡ 0) → Sound (emptied h c)
-emptied_sound h c k e = record {
-  kept = record {
-    long = k.long;
-    fine = k.fine;
-    ring_size = k.ring_size;
-    counted = (omega (arith, e, k.counted), omega (arith, e, k.counted), omega (arith, e, k.counted));
-    used_low = omega arith;
-    noted_low = omega arith;
-    remembered = λ i low. absurd (omega arith);
-    few_slots = k.few_slots;
-    few_places = k.few_places;
-  };
-  waiting = e.3;
-}
-
-pub emptied_frame : {X B : Type 0} (was h : Heap X B) (c : Counts) → Frame was h → Frame was (emptied h c)
-emptied_frame was h c f = record {
-  same_limits = f.same_limits;
-  same_status = f.same_status;
-  same_barrier = f.same_barrier;
-  registers_rest = f.registers_rest;
-  nursery_rest = f.nursery_rest;
-  slots_rest = f.slots_rest;
-  forward_rest = f.forward_rest;
-  notes_rest = f.notes_rest;
-  same_slots = f.same_slots;
-  ring_rest = f.ring_rest;
-}
-
--- all visits of the emptying, from a heap h between calls on
-pub visited_all : {X B : Type 0} (g : Ghosts X) (b : Barrier) (rescan : Bool) (h h₁ h₂ h₃ h₄ : Heap X B) → Sound h → rescan ≡ rescanning b (contents g h)
-    → Stage h h₁ → Stage h₁ h₂ → Stage h₂ h₃
-    → evacuation g h₁ ≡ begin_evacuation (contents g h)
-    → evacuation g h₂ ≡ visit_registers rescan 0 h₁.limits.registers (evacuation g h₁)
-    → evacuation g h₃ ≡ visit_noted g.count (contents g h₂).notes (evacuation g h₂)
-    → evacuation g h₄ ≡ visit_copied rescan g.count 0 h₃.used (evacuation g h₃)
-    → evacuation g h₄ ≡ visit_all (sizes_of_heap g h) b (contents g h)
-visited_all g b rescan h h₁ h₂ h₃ h₄ sound is-rescan s₁ s₂ s₃ e₁ e₂ e₃ e₄ =
-    let n = g.count in
-    let r = rescanning b (contents g h) in
-    let registers : evacuation g h₂ ≡ visit_registers r 0 h.limits.registers (begin_evacuation (contents g h)) =
-    e₂ ∙ ap (λ x. visit_registers x 0 h₁.limits.registers (evacuation g h₁)) is-rescan
-    ∙ ap (λ l. visit_registers r 0 l.registers (evacuation g h₁)) s₁.frame.same_limits
-    ∙ ap (visit_registers r 0 h.limits.registers) e₁ in
-    let notes_are : (contents g h₂).notes ≡ (contents g h).notes =
-    ap (λ m. front (λ x. x.slot) m h₂.notes.now) (s₂.same_noted ∙ s₁.same_noted)
-    ∙ ap (front (λ x. x.slot) h.noted) (s₂.same_notes ∙ s₁.same_notes) in
-    let noted : evacuation g h₃ ≡ visit_noted n (contents g h).notes (visit_registers r 0 h.limits.registers (begin_evacuation (contents g h))) =
-    e₃ ∙ ap (λ qs. visit_noted n qs (evacuation g h₂)) notes_are ∙ ap (visit_noted n (contents g h).notes) registers in
-    let used_is : h₃.used ≡ length (contents g h).nursery =
-    s₃.same_used ∙ s₂.same_used ∙ s₁.same_used ∙ sym (length_front (meaning_of g) h.used h.nursery.now (omega (arith, sound.kept.used_low, sound.kept.long))) in
-    e₄ ∙ ap (λ x. visit_copied x n 0 h₃.used (evacuation g h₃)) is-rescan
-    ∙ ap (λ m. visit_copied r n 0 m (evacuation g h₃)) used_is
-    ∙ ap (visit_copied r n 0 (length (contents g h).nursery)) noted
 
 -- a word shaded on the way: only the ring and the counts change
 pub shaded_stage : {X B : Type 0} (h i : Heap X B) → Evacuating h → Kept i → i ≡ with_ring h i.ring i.counts → i.counts.nursery ≡ h.counts.nursery → Beyond h.ring i.ring → Stage h i

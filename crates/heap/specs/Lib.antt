@@ -9,3 +9,4 @@ pub mod Carrying
 pub mod Scans
 pub mod Collecting
 pub mod Tallies
+pub mod Printed

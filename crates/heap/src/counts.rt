@@ -39,78 +39,50 @@ impl Counts {
     }
 
     // One nursery record more.
-    pub(crate) fn with_made(self) -> Counts
-        requires { self.occupied + self.nursery < self.slots }
-        ensures { (result.slots ≡ self.slots) × (result.occupied ≡ self.occupied) × (result.white ≡ self.white) × (result.nursery ≡ self.nursery + 1) }
+    pub(crate) fn count_made(&mut self)
+        requires { self.old.occupied + self.old.nursery < self.old.slots }
+        ensures { (self.new.slots ≡ self.old.slots) × (self.new.occupied ≡ self.old.occupied) × (self.new.white ≡ self.old.white) × (self.new.nursery ≡ self.old.nursery + 1) }
     {
-        Counts {
-            slots: self.slots,
-            occupied: self.occupied,
-            white: self.white,
-            nursery: self.nursery + 1,
-        }
+        self.nursery += 1;
     }
 
     // A nursery record has moved to a slot.
-    pub(crate) fn with_moved(self) -> Counts
-        requires { 0 < self.nursery }
-        ensures { (result.slots ≡ self.slots) × (result.occupied ≡ self.occupied + 1) × (result.white ≡ self.white) × (result.nursery + 1 ≡ self.nursery) }
+    pub(crate) fn count_moved(&mut self)
+        requires { 0 < self.old.nursery }
+        ensures { (self.new.slots ≡ self.old.slots) × (self.new.occupied ≡ self.old.occupied + 1) × (self.new.white ≡ self.old.white) × (self.new.nursery + 1 ≡ self.old.nursery) }
     {
-        Counts {
-            slots: self.slots,
-            occupied: self.occupied + 1,
-            white: self.white,
-            nursery: self.nursery - 1,
-        }
+        self.nursery -= 1;
+        self.occupied += 1;
     }
 
     // The nursery is empty.
-    pub(crate) fn with_empty_nursery(self) -> Counts
-        ensures { (result.slots ≡ self.slots) × (result.occupied ≡ self.occupied) × (result.white ≡ self.white) × (result.nursery ≡ 0) }
+    pub(crate) fn count_emptied(&mut self)
+        ensures { (self.new.slots ≡ self.old.slots) × (self.new.occupied ≡ self.old.occupied) × (self.new.white ≡ self.old.white) × (self.new.nursery ≡ 0) }
     {
-        Counts {
-            slots: self.slots,
-            occupied: self.occupied,
-            white: self.white,
-            nursery: 0,
-        }
+        self.nursery = 0;
     }
 
     // A white slot was shaded.
-    pub(crate) fn with_shaded(self) -> Counts
-        requires { 0 < self.white }
-        ensures { (result.slots ≡ self.slots) × (result.occupied ≡ self.occupied) × (result.white + 1 ≡ self.white) × (result.nursery ≡ self.nursery) }
+    pub(crate) fn count_shaded(&mut self)
+        requires { 0 < self.old.white }
+        ensures { (self.new.slots ≡ self.old.slots) × (self.new.occupied ≡ self.old.occupied) × (self.new.white + 1 ≡ self.old.white) × (self.new.nursery ≡ self.old.nursery) }
     {
-        Counts {
-            slots: self.slots,
-            occupied: self.occupied,
-            white: self.white - 1,
-            nursery: self.nursery,
-        }
+        self.white -= 1;
     }
 
     // A cycle was opened: every occupied slot is white.
-    pub(crate) fn with_opened(self) -> Counts
-        ensures { (result.slots ≡ self.slots) × (result.occupied ≡ self.occupied) × (result.white ≡ self.occupied) × (result.nursery ≡ self.nursery) }
+    pub(crate) fn count_opened(&mut self)
+        ensures { (self.new.slots ≡ self.old.slots) × (self.new.occupied ≡ self.old.occupied) × (self.new.white ≡ self.old.occupied) × (self.new.nursery ≡ self.old.nursery) }
     {
-        Counts {
-            slots: self.slots,
-            occupied: self.occupied,
-            white: self.occupied,
-            nursery: self.nursery,
-        }
+        self.white = self.occupied;
     }
 
     // A cycle was closed: the white slots are free.
-    pub(crate) fn with_closed(self) -> Counts
-        requires { self.white ≤ self.occupied }
-        ensures { (result.slots ≡ self.slots) × (result.occupied + self.white ≡ self.occupied) × (result.white ≡ 0) × (result.nursery ≡ self.nursery) }
+    pub(crate) fn count_closed(&mut self)
+        requires { self.old.white ≤ self.old.occupied }
+        ensures { (self.new.slots ≡ self.old.slots) × (self.new.occupied + self.old.white ≡ self.old.occupied) × (self.new.white ≡ 0) × (self.new.nursery ≡ self.old.nursery) }
     {
-        Counts {
-            slots: self.slots,
-            occupied: self.occupied - self.white,
-            white: 0,
-            nursery: self.nursery,
-        }
+        self.occupied -= self.white;
+        self.white = 0;
     }
 }

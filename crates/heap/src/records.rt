@@ -39,15 +39,9 @@ pub(crate) fn set_link_in<T: Kind>(records: &mut [T], i: usize, k: usize, w: u32
     records[i].set_link(k, w);
 }
 
-// The links of record i, and 0 after them.
-pub(crate) fn links_in<T: Kind>(records: &[T], i: usize) -> [u32; 8]
-    requires { i < length records.now }
-    ensures { (k : ℕ) → slice_index result k ≡ link_at (map (meaning_of T.Kind) records.now) i k }
+// The links of a record, and 0 after them.
+pub(crate) fn links_of<T: Kind>(one: T) -> [u32; 8]
+    ensures { (k : ℕ) → slice_index result k ≡ slice_index (T.Kind.links one) k }
 {
-    let record = records[i];
-    let mut links = [0; 8];
-    for k in 0..T::link_count() {
-        links[k] = record.link(k);
-    }
-    links
+    std::array::from_fn(|k| one.link(k))
 }

@@ -1,14 +1,26 @@
 // What tally counts.
-ghost use Rattle.std.specs.Prelude.{◌≡◌, ◌+◌, ◌*◌, ◌≤◌};
+ghost use Rattle.std.specs.Prelude.{◌≡◌, ◌+◌, ◌*◌, ◌≤◌, Some};
+ghost use Rattle.heap.specs.Printed.{tally_text};
 ghost use Rattle.heap.specs.Tallies.{flush_count, flush_share};
 
 use kinds::weighed::Weighed;
+use std::fmt;
 
 // How many flushes there are along a chain, and the sum of their weights in milligrams.
 #[derive(Clone, Copy, PartialEq, Eq, Debug)]
 pub struct Tally {
     pub flushes: u32,
     pub weight: u64,
+}
+
+// As "flushes 2, together 900 mg".
+impl fmt::Display for Tally {
+    ghost output = { λ t. Some (tally_text t) };
+
+    fn fmt<W: fmt::Write>(&self, f: &mut fmt::Formatter<W>) -> fmt::Result {
+        let Tally { flushes, weight } = *self;
+        write!(f, "flushes {flushes}, together {weight} mg")
+    }
 }
 
 impl Tally {
@@ -26,7 +38,7 @@ impl Tally {
         }
         Tally {
             flushes: self.flushes + 1,
-            weight: self.weight + row.weight_mg() as u64,
+            weight: self.weight + u64::from(row.weight_mg()),
         }
     }
 }

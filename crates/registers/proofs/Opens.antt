@@ -31,20 +31,20 @@ status_left (Ok x) P (Ok u) h = refl
 status_left (Ok x) P (Err e) h = absurd h
 status_left (Err e) P s h = h
 
--- a table whose first n places were filled with nothing
-pub record Emptied (n : ℕ) (was is : List ℕ) : Type 0 where
-  pub front : take n is ≡ replicate n 0
+-- a table whose first n places were filled with x
+pub record Filled {X : Type 0} (n : ℕ) (x : X) (was is : List X) : Type 0 where
+  pub front : take n is ≡ replicate n x
   pub rest : drop n is ≡ drop n was
   pub size : length is ≡ length was
 
-pub emptied : (n : ℕ) (table xs : List ℕ) → n ≤ length table → length xs ≡ length (take n table) → xs ≡ replicate (length (take n table)) 0 → Emptied n table (xs ++ drop n table)
-emptied n table xs low long is =
-    let size : length (take n table) ≡ n = length-take-le n table low in
-    let ys = drop n table in
+pub filled : {X : Type 0} (n : ℕ) (was xs : List X) (x : X) → n ≤ length was → length xs ≡ length (take n was) → xs ≡ replicate (length (take n was)) x → Filled n x was (xs ++ drop n was)
+filled n was xs x low long is =
+    let size : length (take n was) ≡ n = length-take-le n was low in
+    let ys = drop n was in
     record {
-      front = ap (λ k. take k (xs ++ ys)) (sym (long ∙ size)) ∙ take-append_seam xs ys ∙ is ∙ ap (λ k. replicate k 0) size;
+      front = ap (λ k. take k (xs ++ ys)) (sym (long ∙ size)) ∙ take-append_seam xs ys ∙ is ∙ ap (λ k. replicate k x) size;
       rest = ap (λ k. drop k (xs ++ ys)) (sym (long ∙ size)) ∙ drop-append_seam xs ys;
-      size = omega (arith, length-append xs ys, length-drop n table);
+      size = omega (arith, length-append xs ys, length-drop n was);
     }
 
 -- a new store over a register table

@@ -1,5 +1,5 @@
 -- The typed results of the calls, as the answers that the rules define: each case by its number and values.
-use Rattle.std.specs.Prelude.{ℕ, Bool, true, cond, List, [], ◌∷◌, ℤ, pos, Ok, Err, Result}
+use Rattle.std.specs.Prelude.{ℕ, Bool, true, cond, List, [], ◌∷◌, ℤ, pos, Some, None, Ok, Err, Option, Result}
 use Rattle.words.specs.Words.{is_number}
 use Rattle.rules.specs.Rules.{Answer, refused, done, counts, flag, in_range, index}
 use Rattle.kinds.specs.declared.fault.StoreFault.TheVariants.{NoSuchRegister, Closed}
@@ -43,6 +43,10 @@ told_why (Err e) = store_refusal e
 abbrev pub ready_at : {U : Type 0} → Result U StoreFault → Result U StoreFault
 ready_at (Ok u) = Ok u
 ready_at (Err e) = Err Closed
+
+-- the index that a number is, if it is below n
+abbrev pub index_in : ℕ → ℤ → Option ℕ
+index_in n v = cond (in_range v n) (Some (index v)) None
 
 -- the index of a register, of n
 abbrev pub register_at : ℕ → ℤ → Result ℕ StoreFault

@@ -1,5 +1,5 @@
 -- What the table of a heap of registers alone holds, as a state of the rules.
-use Rattle.std.specs.Prelude.{◌≡◌, ◌≤◌, false, [], length, take, drop}
+use Rattle.std.specs.Prelude.{◌≡◌, false, [], take, drop}
 use Rattle.ring.specs.Arcs.{new_arcs}
 use Rattle.registers.specs.declared.heap.Heap.{Heap}
 use Rattle.registers.specs.Answers.{told_why}
@@ -19,10 +19,6 @@ view h = record {
     cycle = false;
   };
 }
-
--- the table has a place for each register
-abbrev pub Sound : {B : Type 0} → Heap B → Type 0
-Sound h = h.limits.registers ≤ length h.registers.now
 
 -- table places beyond the sizes hold what they held
 abbrev pub Beyond : {B : Type 0} → Heap B → Heap B → Type 0

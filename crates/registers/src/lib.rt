@@ -2,8 +2,10 @@
 #![tactic(auto)]
 
 pub mod heap;
+pub mod index;
 pub mod seen;
 pub mod sizes;
 pub mod store;
+pub mod table;
 #[cfg(test)]
 mod tests;

@@ -1,6 +1,6 @@
 // The sizes of a store: as a caller hands them in, and in range.
 ghost use Rattle.std.specs.Prelude.{◌≡◌};
-ghost use Rattle.registers.specs.Opening.{size_of, limits_of};
+ghost use Rattle.registers.specs.Opening.{size_of, limits_of, limits_over};
 
 use kinds::fault::StoreFault;
 
@@ -45,5 +45,18 @@ impl TryFrom<Sizes> for Limits {
             registers: size(sizes.registers, 64)?,
             scans: size(sizes.scans, 16_384)?,
         })
+    }
+}
+
+impl Limits {
+    // The limits of a store of these sizes, if a table of so many places has one for each register.
+    pub(crate) fn over(sizes: Sizes, places: usize) -> Result<Limits, StoreFault>
+        ensures { result ≡ limits_over sizes places }
+    {
+        let limits = Limits::try_from(sizes)?;
+        if places < limits.registers as usize {
+            return Err(StoreFault::TableShort);
+        }
+        Ok(limits)
     }
 }

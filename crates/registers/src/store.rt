@@ -1,20 +1,20 @@
-// The store: a heap that is sound, and its calls, which refuse what is out of range.
+// The store: a heap of registers alone, and its calls, which refuse what is out of range.
 ghost use Rattle.std.specs.Prelude.{◌≡◌, true, length, drop, IfOk};
 ghost use Rattle.rules.specs.Rules.{load, empty, copy, same, look};
 ghost use Rattle.registers.specs.Answers.{seen_in_range, told_done, told_flag, told_seen, told_why};
 ghost use Rattle.registers.specs.State.{after, answer, opened};
-ghost use Rattle.registers.specs.View.{view, Sound, Beyond};
+ghost use Rattle.registers.specs.View.{view, Beyond};
 
 use crate::heap::Heap;
 use crate::seen::Seen;
 use crate::sizes::Sizes;
+use crate::table::RegisterTable;
 use kinds::barrier::Barrier;
 use kinds::fault::StoreFault;
 
 #[derive(Drop)]
 pub struct Store<'a, B: Barrier> {
     heap: Heap<'a, B>,
-    ghost sound: { Sound heap },
 }
 
 impl<'a, B: Barrier> Store<'a, B> {

@@ -1,16 +1,10 @@
--- What the answer of a method tells of the call that it is made for.
-use Rattle.std.proofs.Common.{◌≡◌, IfOk, Ok, Err, Result, sym, ap, ◌∙◌, subst}
-use Rattle.rules.specs.Rules.{Barrier}
-use Rattle.rules.specs.Rules as rules
-use Rattle.kinds.specs.declared.fault.StoreFault.{StoreFault}
-use Rattle.kinds.specs.declared.kind.Kind.{Ghosts}
-use Rattle.registers.specs.Answers.{told_done}
-use Rattle.registers.specs.State.{State, answer}
-use Rattle.store.specs.declared.call.Call.{Call}
-use Rattle.store.specs.declared.call.Answer.TheVariants.{Done}
-use Rattle.store.specs.Calls.{Outcome, call_of, as_answer, told_call, Suits, Answers}
+-- Numbers that are passed on to a write.
+use Rattle.std.proofs.Common.{◌≡◌, ℤ, ap, ◌∙◌, w64, SFits, to_z, of_z}
+use Rattle.std.proofs.lemmas.Int.{to_z-of_z}
+use Rattle.rules.specs.Rules.{Call, write}
 
--- a call c that is the rules' call k and only says that it is done
-pub done_answers : {U X : Type 0} (g : Ghosts X) (b : Barrier) (s : State) (c : Call X) (k : rules.Call) (r : Result U StoreFault) (o : Outcome X) → call_of g c ≡ k → Suits g c Done → told_done r ≡ answer b s k → o ≡ as_answer (λ _. Done) r → Answers g b s c o
-done_answers g b s c k (Ok u) o e suits t f = record { told = ap (told_call g) f ∙ t ∙ ap (answer b s) (sym e); case = subst (λ x. IfOk x (Suits g c)) (sym f) suits }
-done_answers g b s c k (Err x) o e suits t f = record { told = ap (told_call g) f ∙ t ∙ ap (answer b s) (sym e); case = subst (λ y. IfOk y (Suits g c)) (sym f) tt }
+pub write_passed : (s k t : ℤ) → SFits w64 s → SFits w64 k → SFits w64 t → ◌≡◌ {A = Call} (write (to_z w64 (of_z w64 s)) (to_z w64 (of_z w64 k)) (to_z w64 (of_z w64 t))) (write s k t)
+write_passed s k t fits_s fits_k fits_t =
+    ap (λ x. write x (to_z w64 (of_z w64 k)) (to_z w64 (of_z w64 t))) (to_z-of_z w64 s fits_s)
+    ∙ ap (λ x. write s x (to_z w64 (of_z w64 t))) (to_z-of_z w64 k fits_k)
+    ∙ ap (write s k) (to_z-of_z w64 t fits_t)

@@ -45,11 +45,6 @@ answered g (Collected r) = counts (r.copied ∷ (r.scanned ∷ (r.freed ∷ (fla
 abbrev pub Outcome : Type 0 → Type 0
 Outcome X = Result (Answer X) StoreFault
 
--- a typed result as an outcome: f gives the answer
-abbrev pub as_answer : {U X : Type 0} → (U → Answer X) → Result U StoreFault → Outcome X
-as_answer f (Ok u) = Ok (f u)
-as_answer f (Err e) = Err e
-
 abbrev pub told_call : {X : Type 0} → Ghosts X → Outcome X → rules.Answer
 told_call g (Ok a) = answered g a
 told_call g (Err e) = refused (store_refusal e)

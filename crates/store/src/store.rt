@@ -22,6 +22,7 @@ use kinds::barrier::Barrier;
 use kinds::fault::StoreFault;
 use kinds::kind::Kind;
 use kinds::weighed::Weighed;
+use registers::table::RegisterTable;
 use ring::arcs::Lengths;
 
 #[derive(Drop)]

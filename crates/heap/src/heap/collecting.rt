@@ -1,4 +1,5 @@
 // The calls that collect: the nursery is emptied, and the cycle goes on by a limited number of scans, or all is collected.
+// (They share three lines; the contract of a function for these would be longer than they are.)
 ghost use Rattle.std.specs.Prelude.{◌≡◌, ◌≤◌, false, IfOk, OnOk};
 ghost use Rattle.ring.specs.View.{is_open_of};
 ghost use Rattle.rules.specs.Rules.{step, full};
@@ -11,6 +12,7 @@ use crate::stepped::Stepped;
 use kinds::barrier::Barrier;
 use kinds::fault::StoreFault;
 use kinds::kind::Kind;
+use registers::table::RegisterTable;
 
 impl<T: Kind, B: Barrier> Heap<'_, T, B> {
     // A step: the nursery is emptied, a cycle opens if none is open, slots are scanned, and it closes if none is grey.

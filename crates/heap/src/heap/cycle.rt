@@ -8,7 +8,7 @@ ghost use Rattle.heap.specs.Scans.{scans_one, scanned_one, scanned_upto};
 ghost use Rattle.heap.specs.View.{Kept, contents};
 
 use crate::heap::Heap;
-use crate::records::links_in;
+use crate::records::links_of;
 use kinds::barrier::Barrier;
 use kinds::kind::Kind;
 
@@ -20,7 +20,8 @@ pub struct Collected {
 }
 
 impl<T: Kind, B: Barrier> Heap<'_, T, B> {
-    // Shades the words in the registers, ascending.
+    // Shades the words in the registers, ascending. (By index: shading takes the whole heap, so the table can't be lent to the
+    // loop.)
     fn shade_registers(&mut self)
         requires { Kept self.old }
         ensures carried { Carried self.old self.new }
@@ -40,7 +41,7 @@ impl<T: Kind, B: Barrier> Heap<'_, T, B> {
         ensures left { contents T.Kind self.new ≡ with_cycle true (with_arcs (open_arcs (contents T.Kind self.old).arcs) (contents T.Kind self.old)) }
     {
         self.ring.open_cycle();
-        self.counts = self.counts.with_opened();
+        self.counts.count_opened();
     }
 
     // Opens a cycle: every record of the old area is white, and those that registers lead to are shaded.
@@ -60,8 +61,8 @@ impl<T: Kind, B: Barrier> Heap<'_, T, B> {
         ensures carried { Carried self.old self.new }
         ensures left { contents T.Kind self.new ≡ with_arcs (shade_all (take T.Kind.count links) (contents T.Kind self.old).arcs) (contents T.Kind self.old) }
     {
-        for k in 0..T::link_count() {
-            self.shade_word(links[k]);
+        for w in &links[..T::link_count()] {
+            self.shade_word(*w);
         }
     }
 
@@ -71,7 +72,7 @@ impl<T: Kind, B: Barrier> Heap<'_, T, B> {
         requires within { q < self.now.limits.slots }
         ensures { take T.Kind.count result ≡ (slice_index_or (contents T.Kind self.now).slots q no_record).links }
     {
-        links_in(self.slots, q as usize)
+        links_of(self.slots[q as usize])
     }
 
     // Scans the last grey slot, if there is one: it becomes black, and its links are shaded. Says whether there was one.
@@ -117,7 +118,7 @@ impl<T: Kind, B: Barrier> Heap<'_, T, B> {
             return 0;
         }
         let freed = self.counts.white_count();
-        self.counts = self.counts.with_closed();
+        self.counts.count_closed();
         freed
     }
 

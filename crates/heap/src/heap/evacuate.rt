@@ -1,6 +1,7 @@
 // Evacuation: a nursery record that a word leads to is copied to a slot of the old area, once.
 ghost use Rattle.std.specs.Prelude.{◌≡◌, ℕ, ◌+◌, ◌<◌, ◌≤◌, [], ◌∷◌, ◌++◌, length, get_or, replicate, Some, None, MatchOption, slice_index_or, slice_set};
 ghost use Rattle.ring.specs.Arcs.{take_slot};
+ghost use Rattle.words.specs.Words.{slot_word};
 ghost use Rattle.rules.specs.Rules.{Evacuation, begin_evacuation, evacuate_into, evacuate_to, evacuated};
 ghost use Rattle.heap.specs.Evacuating.{Stage};
 ghost use Rattle.heap.specs.View.{front, contents, evacuation, Sound, Evacuating, Rest, no_forward};
@@ -11,21 +12,18 @@ use crate::rows::Forward;
 use kinds::barrier::Barrier;
 use kinds::kind::Kind;
 use words::place::Place;
-use words::word::place_of;
+use words::word::{place_of, slot_word};
 
 // The first n rows lead to no slot.
-fn clear_targets(rows: &mut [Forward], n: u32)
+fn clear_targets(rows: &mut [Forward], n: usize)
     requires { n ≤ length rows.old }
     ensures cleared { front (λ f. f.target) n rows.new ≡ replicate n None }
     ensures beyond { (m : ℕ) → n ≤ m → Rest m rows.old rows.new }
 {
-    for i in 0..n {
-        let row = rows[i as usize];
-        rows[i as usize] = Forward {
-            target: None,
-            copied: row.copied,
-        };
-    }
+    rows[..n].fill(Forward {
+        target: None,
+        copied: 0,
+    });
 }
 
 // Row p leads to slot q, and row i has q as the slot that was taken as the i-th.
@@ -36,16 +34,8 @@ fn forward_to(rows: &mut [Forward], p: u32, i: u32, q: u32)
     ensures queue { front (λ f. f.copied) (i + 1) rows.new ≡ front (λ f. f.copied) i rows.old ++ (q ∷ []) }
     ensures beyond { (m : ℕ) → p < m → i < m → Rest m rows.old rows.new }
 {
-    let row = rows[p as usize];
-    rows[p as usize] = Forward {
-        target: Some(q),
-        copied: row.copied,
-    };
-    let row = rows[i as usize];
-    rows[i as usize] = Forward {
-        target: row.target,
-        copied: q,
-    };
+    rows[p as usize].target = Some(q);
+    rows[i as usize].copied = q;
 }
 
 // The used nursery place that a word leads to, if it leads to one of the first n.
@@ -53,9 +43,17 @@ fn used_place(w: u32, n: u32) -> Option<u32>
     ensures { MatchOption result ((c : Evacuation) → length c.forward ≡ n → evacuated w c ≡ (w, c)) (λ p. (p < n) × ((c : Evacuation) → length c.forward ≡ n → evacuated w c ≡ evacuate_to p (slice_index_or c.forward p None) c)) }
 {
     match place_of(w) {
-        Some(Place::Young(p)) => { if p < n { Some(p) } else { None } }
+        Some(Place::Young(p)) if p < n => Some(p),
         _ => None,
     }
+}
+
+// The word of an old slot, of which there are at most 16,384.
+fn old_word(q: u32) -> u32
+    requires { q < 16384 }
+    ensures { result ≡ slot_word q }
+{
+    slot_word(q).unwrap()
 }
 
 impl<T: Kind, B: Barrier> Heap<'_, T, B> {
@@ -65,8 +63,7 @@ impl<T: Kind, B: Barrier> Heap<'_, T, B> {
         ensures stage { Stage self.old self.new }
         ensures state { evacuation T.Kind self.new ≡ begin_evacuation (contents T.Kind self.old) }
     {
-        let n = self.used;
-        clear_targets(self.forward, n);
+        clear_targets(self.forward, self.used as usize);
         self.copied = 0;
     }
 
@@ -95,8 +92,8 @@ impl<T: Kind, B: Barrier> Heap<'_, T, B> {
         let i = self.copied;
         forward_to(self.forward, p, i, q);
         self.copied = i + 1;
-        self.counts = self.counts.with_moved();
-        4 * q + 3
+        self.counts.count_moved();
+        old_word(q)
     }
 
     // The word that takes the place of w: that of the slot of the record, if w is a used nursery place, else w itself.
@@ -112,7 +109,7 @@ impl<T: Kind, B: Barrier> Heap<'_, T, B> {
         };
         let target = self.forward[p as usize].target;
         match target {
-            Some(q) => 4 * q + 3,
+            Some(q) => old_word(q),
             None => self.copy_record(p),
         }
     }

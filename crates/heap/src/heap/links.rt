@@ -1,32 +1,29 @@
 // Records with all their links replaced, of any kind.
-ghost use Rattle.std.specs.Prelude.{◌≡◌, ℕ, ◌<◌, map, length, drop, replicate, slice_index_or, slice_set};
+ghost use Rattle.std.specs.Prelude.{◌≡◌, ℕ, ◌<◌, map, length, take, drop, replicate, slice_index_or, slice_set};
 ghost use Rattle.rules.specs.Rules.{with_plain, no_record};
 ghost use Rattle.heap.specs.Meaning.{meaning_of};
 
+use crate::records::links_of;
 use kinds::kind::Kind;
 
-// The template with the links of another record.
-fn with_links_of<T: Kind>(template: T, other: T) -> T
-    ensures links { T.Kind.links result ≡ T.Kind.links other }
-    ensures plain { T.Kind.plain result ≡ T.Kind.plain template }
+// The record with these links, as many as its kind has.
+fn with_links<T: Kind>(one: T, links: [u32; 8]) -> T
+    ensures links { T.Kind.links result ≡ take T.Kind.count links }
+    ensures plain { T.Kind.plain result ≡ T.Kind.plain one }
 {
-    let mut made = template;
-    for k in 0..T::link_count() {
-        made.set_link(k, other.link(k));
+    let mut made = one;
+    for (k, w) in links.iter().enumerate() {
+        made.set_link(k, *w);
     }
     made
 }
 
 // The record with nothing in its links.
-pub(crate) fn without_links<T: Kind>(full: T) -> T
+pub(crate) fn without_links<T: Kind>(one: T) -> T
     ensures links { T.Kind.links result ≡ replicate T.Kind.count 0 }
-    ensures plain { T.Kind.plain result ≡ T.Kind.plain full }
+    ensures plain { T.Kind.plain result ≡ T.Kind.plain one }
 {
-    let mut made = full;
-    for k in 0..T::link_count() {
-        made.set_link(k, 0);
-    }
-    made
+    with_links(one, [0; 8])
 }
 
 // Gives record i the plain part of a template.
@@ -35,6 +32,5 @@ pub(crate) fn fill_in<T: Kind>(records: &mut [T], i: usize, template: &T)
     ensures filled { map (meaning_of T.Kind) records.new ≡ slice_set (map (meaning_of T.Kind) records.old) i (with_plain (slice_index_or (map (meaning_of T.Kind) records.old) i no_record) (T.Kind.plain template.now)) }
     ensures beyond { (n : ℕ) → i < n → drop n records.new ≡ drop n records.old }
 {
-    let was = records[i];
-    records[i] = with_links_of(*template, was);
+    records[i] = with_links(*template, links_of(records[i]));
 }

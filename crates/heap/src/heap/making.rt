@@ -12,17 +12,20 @@ use crate::records::put_at;
 use kinds::barrier::Barrier;
 use kinds::fault::StoreFault;
 use kinds::kind::Kind;
+use registers::index::index_below;
+use registers::table::RegisterTable;
 use words::word::nursery_word;
 
-// Whether a number is 0 to n − 1.
-fn is_below(v: i64, n: u32) -> bool
+// Whether a number is an index below n.
+fn is_below(v: i64, n: usize) -> bool
     ensures { result ≡ in_range v n }
 {
-    v >= 0 && v < n as i64
+    index_below(v, n).is_some()
 }
 
-// Whether all numbers of a list are.
-fn all_below(numbers: &[i64], n: u32) -> bool
+// Whether all numbers of a list are. (A `for`: a closure passed to `all` is proved for numbers that need not fit an `i64`,
+// so that `returns` stays open there.)
+fn all_below(numbers: &[i64], n: usize) -> bool
     ensures { result ≡ all_in numbers.now n }
 {
     for v in numbers {
@@ -33,12 +36,11 @@ fn all_below(numbers: &[i64], n: u32) -> bool
     true
 }
 
-// The index that a number from 0 on is.
+// The index that a number from 0 on is; 0 for any other.
 fn index_of(v: i64) -> usize
-    requires { pos 0 ≤ℤ v }
     ensures { result ≡ index v }
 {
-    v as usize
+    usize::try_from(v).unwrap_or(0)
 }
 
 // The word of a place of the nursery, which has at most 1,024.
@@ -70,7 +72,7 @@ impl<T: Kind, B: Barrier> Heap<'_, T, B> {
         ensures { result ≡ open_make_index self.now.status (view T.Kind self.now).sizes (view T.Kind self.now).store d links.now }
     {
         let i = self.open_register(d)?;
-        if !all_below(links, self.limits.registers) {
+        if !all_below(links, self.limits.registers as usize) {
             return Err(StoreFault::NoSuchRegister);
         }
         if links.len() != T::link_count() {
@@ -89,8 +91,8 @@ impl<T: Kind, B: Barrier> Heap<'_, T, B> {
         ensures plain { T.Kind.plain result ≡ T.Kind.plain template.now }
     {
         let mut made = *template;
-        for k in 0..links.len() {
-            let i = index_of(links[k]);
+        for (k, r) in links.iter().enumerate() {
+            let i = index_of(*r);
             made.set_link(k, self.word_in(i));
         }
         made
@@ -108,7 +110,7 @@ impl<T: Kind, B: Barrier> Heap<'_, T, B> {
         let p = self.used;
         put_at(self.nursery, p as usize, made);
         self.used = p + 1;
-        self.counts = self.counts.with_made();
+        self.counts.count_made();
     }
 
     // Makes a record of a template's plain part and the words of the given registers, and puts it into register d. Says how

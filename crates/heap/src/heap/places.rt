@@ -8,6 +8,7 @@ use crate::heap::Heap;
 use kinds::barrier::Barrier;
 use kinds::fault::StoreFault;
 use kinds::kind::Kind;
+use registers::table::RegisterTable;
 use words::place::Place;
 use words::word::place_of;
 
@@ -29,7 +30,7 @@ impl<T: Kind, B: Barrier> Heap<'_, T, B> {
         ensures within { IfSome result (Within self.now.used self.now.limits.slots) }
     {
         let at = place_of(w)?;
-        if self.is_within(at) { Some(at) } else { None }
+        self.is_within(at).then_some(at)
     }
 
     // The place of the record that the register with index i holds.
@@ -39,10 +40,7 @@ impl<T: Kind, B: Barrier> Heap<'_, T, B> {
         ensures place { result ≡ held_place (view T.Kind self.now).sizes (view T.Kind self.now).store i }
         ensures within { IfOk result (Within self.now.used self.now.limits.slots) }
     {
-        match self.place_in(self.word_in(i)) {
-            Some(at) => Ok(at),
-            None => Err(StoreFault::NoRecord),
-        }
+        self.place_in(self.word_in(i)).ok_or(StoreFault::NoRecord)
     }
 
     // The place of the record that register r of an open store holds.

@@ -13,6 +13,8 @@ use crate::records::{link_in, record_of};
 use kinds::barrier::Barrier;
 use kinds::fault::StoreFault;
 use kinds::kind::Kind;
+use registers::index::index_below;
+use registers::table::RegisterTable;
 use ring::arcs::Lengths;
 use words::place::Place;
 
@@ -21,11 +23,7 @@ impl<T: Kind, B: Barrier> Heap<'_, T, B> {
     pub(crate) fn link_index(&self, k: i64) -> Result<usize, StoreFault>
         ensures { result ≡ link_index T.Kind.count k }
     {
-        if k >= 0 && k < T::link_count() as i64 {
-            Ok(k as usize)
-        } else {
-            Err(StoreFault::NoSuchLink)
-        }
+        index_below(k, T::link_count()).ok_or(StoreFault::NoSuchLink)
     }
 
     // Link k of the record at a place.

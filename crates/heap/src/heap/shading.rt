@@ -1,7 +1,6 @@
 // Shading: a white slot that a word leads to becomes grey.
-ghost use Rattle.std.specs.Prelude.{◌≡◌, MatchOption};
+ghost use Rattle.std.specs.Prelude.{◌≡◌};
 ghost use Rattle.ring.specs.View.{arcs_of, is_open_of, Beyond};
-ghost use Rattle.ring.specs.Arcs.{Arcs, shade_slot};
 ghost use Rattle.rules.specs.Rules.{shade};
 ghost use Rattle.heap.specs.View.{Kept, with_ring};
 
@@ -10,16 +9,6 @@ use kinds::barrier::Barrier;
 use kinds::kind::Kind;
 use words::place::Place;
 use words::word::place_of;
-
-// The slot that a word leads to, if it leads to one.
-fn slot_of(w: u32) -> Option<u32>
-    ensures { MatchOption result ((a : Arcs) → shade w a ≡ a) (λ q. (a : Arcs) → shade w a ≡ shade_slot q a) }
-{
-    match place_of(w) {
-        Some(Place::Old(q)) => Some(q),
-        _ => None,
-    }
-}
 
 impl<T: Kind, B: Barrier> Heap<'_, T, B> {
     // Shades the slot that a word leads to, if it is white. Says whether a slot moved.
@@ -32,12 +21,12 @@ impl<T: Kind, B: Barrier> Heap<'_, T, B> {
         ensures nursery { self.new.counts.nursery ≡ self.old.counts.nursery }
         ensures beyond { Beyond self.old.ring self.new.ring }
     {
-        let Some(q) = slot_of(w) else {
+        let Some(Place::Old(q)) = place_of(w) else {
             return false;
         };
         let moved = self.ring.shade(q);
         if moved {
-            self.counts = self.counts.with_shaded();
+            self.counts.count_shaded();
         }
         moved
     }

@@ -9,6 +9,7 @@ use crate::tally::Tally;
 use kinds::barrier::Barrier;
 use kinds::fault::StoreFault;
 use kinds::weighed::Weighed;
+use registers::table::RegisterTable;
 
 impl<T: Weighed, B: Barrier> Heap<'_, T, B> {
     // How many places can hold a record: the used ones of the nursery and all slots.

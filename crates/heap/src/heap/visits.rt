@@ -1,11 +1,11 @@
 // Emptying the nursery: registers, noted records and copied records are visited, and what they lead to is evacuated.
 ghost use Rattle.std.specs.Prelude.{◌≡◌, ◌<◌, false, length};
-ghost use Rattle.rules.specs.Rules.{link_at, visit_register, visit_registers, visit_link, visit_links, visit_noted, visit_copied, rescanning, empty_nursery};
+ghost use Rattle.rules.specs.Rules.{visit_register, visit_registers, visit_link, visit_links, visit_noted, visit_copied, rescanning, empty_nursery};
 ghost use Rattle.heap.specs.Evacuating.{Stage, shade_visited};
 ghost use Rattle.heap.specs.View.{contents, evacuation, sizes_of_heap, Sound, Evacuating, Frame};
 
 use crate::heap::Heap;
-use crate::records::{link_in, set_link_in};
+use crate::records::set_link_in;
 use kinds::barrier::Barrier;
 use kinds::kind::Kind;
 
@@ -34,7 +34,8 @@ impl<T: Kind, B: Barrier> Heap<'_, T, B> {
         self.rescan_word(rescan, v);
     }
 
-    // Visits the registers, ascending.
+    // Visits the registers, ascending. (By index, here and below: a visit takes the whole heap, so no table can be lent to
+    // the loop.)
     pub(crate) fn visit_registers(&mut self, rescan: bool)
         requires { Evacuating self.old }
         ensures stage { Stage self.old self.new }
@@ -46,15 +47,6 @@ impl<T: Kind, B: Barrier> Heap<'_, T, B> {
         }
     }
 
-    // Link k of slot q.
-    fn slot_link(&self, q: u32, k: usize) -> u32
-        requires sound { Evacuating self.now }
-        requires within { q < self.now.limits.slots }
-        ensures { result ≡ link_at (contents T.Kind self.now).slots q k }
-    {
-        link_in(self.slots, q as usize, k)
-    }
-
     // Visits link k of slot q: its word is replaced by that of the evacuated record.
     fn visit_link(&mut self, q: u32, k: usize, rescan: bool)
         requires sound { Evacuating self.old }
@@ -62,7 +54,7 @@ impl<T: Kind, B: Barrier> Heap<'_, T, B> {
         ensures stage { Stage self.old self.new }
         ensures state { evacuation T.Kind self.new ≡ visit_link rescan q k (evacuation T.Kind self.old) }
     {
-        let w = self.slot_link(q, k);
+        let w = self.link_of(q, k);
         let v = self.evacuate(w);
         set_link_in(self.slots, q as usize, k, v);
         self.rescan_word(rescan, v);
@@ -94,7 +86,8 @@ impl<T: Kind, B: Barrier> Heap<'_, T, B> {
         }
     }
 
-    // Visits the links of the copied records, in order of copying; more may be copied on the way.
+    // Visits the links of the copied records, in order of copying; more may be copied on the way, so the end is read again
+    // each time.
     pub(crate) fn visit_copied(&mut self, rescan: bool)
         requires { Evacuating self.old }
         ensures stage { Stage self.old self.new }
@@ -124,7 +117,7 @@ impl<T: Kind, B: Barrier> Heap<'_, T, B> {
         self.visit_copied(rescan);
         self.used = 0;
         self.noted = 0;
-        self.counts = self.counts.with_empty_nursery();
+        self.counts.count_emptied();
         self.copied
     }
 }

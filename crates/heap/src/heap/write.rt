@@ -1,9 +1,10 @@
 // Writing a link of a record: the write barrier, the remembered set, and the link itself.
-ghost use Rattle.std.specs.Prelude.{◌≡◌, ◌<◌, true, false, not, ◌&&◌, [], ◌∷◌, ◌++◌, length, is_ok, if◌then◌else◌, nat_le};
+ghost use Rattle.std.specs.Prelude.{◌≡◌, ◌<◌, true, false, not, ◌&&◌, [], ◌∷◌, ◌++◌, length, is_ok, Ok, Err, if◌then◌else◌, nat_le};
 ghost use Rattle.ring.specs.Arcs.{has, marked};
 ghost use Rattle.words.specs.Words.{place_of};
 ghost use Rattle.words.specs.declared.place.Place.TheVariants.{Young};
 ghost use Rattle.kinds.specs.Barriers.{names_overwritten, names_new};
+ghost use Rattle.kinds.specs.declared.fault.StoreFault.TheVariants.{NotesFull};
 ghost use Rattle.rules.specs.Rules.{with_arcs, with_notes, with_slots, with_link, record_at, put_record, link_at, set_link, is_young, shade_if, barrier_shades, needs_note, write_old};
 ghost use Rattle.heap.specs.Carrying.{Carried};
 ghost use Rattle.heap.specs.View.{Kept, contents};
@@ -11,47 +12,35 @@ ghost use Rattle.heap.specs.View.{Kept, contents};
 use crate::heap::Heap;
 use crate::records::{link_in, set_link_in};
 use kinds::barrier::{Barrier, Shades};
+use kinds::fault::StoreFault;
 use kinds::kind::Kind;
 use words::place::Place;
 use words::word::place_of;
-
-// Why a write is refused: it needs a note, and as many notes stand as there are slots.
-#[derive(Clone, Copy)]
-pub struct NotesFull;
 
 // Whether a word leads to a nursery place.
 fn is_nursery_word(w: u32) -> bool
     ensures { result ≡ is_young (place_of w) }
 {
-    match place_of(w) {
-        Some(Place::Young(_)) => true,
-        _ => false,
-    }
+    matches!(place_of(w), Some(Place::Young(_)))
 }
 
 // Whether a barrier's answer names the overwritten word.
 fn shades_overwritten(shades: Shades) -> bool
     ensures { result ≡ names_overwritten shades }
 {
-    match shades {
-        Shades::Overwritten | Shades::Both => true,
-        Shades::Neither | Shades::New => false,
-    }
+    matches!(shades, Shades::Overwritten | Shades::Both)
 }
 
 // Whether a barrier's answer names the new word.
 fn shades_new(shades: Shades) -> bool
     ensures { result ≡ names_new shades }
 {
-    match shades {
-        Shades::New | Shades::Both => true,
-        Shades::Neither | Shades::Overwritten => false,
-    }
+    matches!(shades, Shades::New | Shades::Both)
 }
 
 impl<T: Kind, B: Barrier> Heap<'_, T, B> {
     // Link k of the record in slot q.
-    fn link_of(&self, q: u32, k: usize) -> u32
+    pub(crate) fn link_of(&self, q: u32, k: usize) -> u32
         requires kept { Kept self.now }
         requires within { q < self.now.limits.slots }
         ensures { result ≡ link_at (contents T.Kind self.now).slots q k }
@@ -137,16 +126,16 @@ impl<T: Kind, B: Barrier> Heap<'_, T, B> {
     }
 
     // Writes w into link k of the record in slot q; refused, with nothing altered, if that needs a note and no row is left.
-    pub(crate) fn write_old(&mut self, q: u32, k: usize, w: u32) -> Result<(), NotesFull>
+    pub(crate) fn write_old(&mut self, q: u32, k: usize, w: u32) -> Result<(), StoreFault>
         requires kept { Kept self.old }
         requires within { q < self.old.limits.slots }
         ensures carried { Carried self.old self.new }
-        ensures answer { is_ok result ≡ not (needs_note (contents T.Kind self.old) q w && nat_le self.old.limits.slots (length (contents T.Kind self.old).notes)) }
+        ensures answer { result ≡ (if needs_note (contents T.Kind self.old) q w && nat_le self.old.limits.slots (length (contents T.Kind self.old).notes) then Err NotesFull else Ok tt) }
         ensures left { contents T.Kind self.new ≡ (if is_ok result then write_old B.Barrier.answers (contents T.Kind self.old) q k w else contents T.Kind self.old) }
     {
         let needed = self.needs_note(q, w);
         if self.lacks_row(needed) {
-            return Err(NotesFull);
+            return Err(StoreFault::NotesFull);
         }
         self.consult_barrier(q, k, w);
         self.note_if(needed, q);

@@ -11,35 +11,10 @@ use crate::heap::Heap;
 use kinds::barrier::Barrier;
 use kinds::fault::StoreFault;
 use kinds::kind::Kind;
+use registers::table::RegisterTable;
 use words::place::Place;
 
 impl<T: Kind, B: Barrier> Heap<'_, T, B> {
-    // Writes w into link k of the record in slot q, or refuses for want of a note.
-    fn write_slot(&mut self, q: u32, k: usize, w: u32) -> Result<(), StoreFault>
-        requires sound { Sound self.old }
-        requires within { q < self.old.limits.slots }
-        ensures sound { Sound self.new }
-        ensures state { view T.Kind self.new ≡ with_store (view T.Kind self.old) (do_write (view T.Kind self.old).sizes B.Barrier.answers (view T.Kind self.old).store k w (Old q)).0 }
-        ensures told { told_done result ≡ (do_write (view T.Kind self.old).sizes B.Barrier.answers (view T.Kind self.old).store k w (Old q)).1 }
-        ensures frame { Frame self.old self.new }
-    {
-        match self.write_old(q, k, w) {
-            Ok(()) => Ok(()),
-            Err(_) => Err(StoreFault::NotesFull),
-        }
-    }
-
-    // Writes w into link k of the record at nursery place p.
-    fn write_place(&mut self, p: u32, k: usize, w: u32)
-        requires sound { Sound self.old }
-        requires within { p < self.old.used }
-        ensures sound { Sound self.new }
-        ensures state { view T.Kind self.new ≡ with_store (view T.Kind self.old) (do_write (view T.Kind self.old).sizes B.Barrier.answers (view T.Kind self.old).store k w (Young p)).0 }
-        ensures frame { Frame self.old self.new }
-    {
-        self.write_young(p, k, w);
-    }
-
     // Writes w into link k of the record at a place.
     fn write_at(&mut self, at: Place, k: usize, w: u32) -> Result<(), StoreFault>
         requires sound { Sound self.old }
@@ -51,10 +26,10 @@ impl<T: Kind, B: Barrier> Heap<'_, T, B> {
     {
         match at {
             Place::Young(p) => {
-                self.write_place(p, k, w);
+                self.write_young(p, k, w);
                 Ok(())
             }
-            Place::Old(q) => self.write_slot(q, k, w),
+            Place::Old(q) => self.write_old(q, k, w),
         }
     }
 

@@ -45,17 +45,11 @@ forward_to-requires g c =
       next = omega (arith, wants, c.requires.sound.moved, k.used_low, k.long);
     }
 
-pub with_moved-self-requires : goal.with_moved-self-requires
-with_moved-self-requires g c = still_waiting c.args.self.now c.args.p c.requires.sound c.requires.used c.requires.unmoved
+pub count_moved-requires : goal.count_moved-requires
+count_moved-requires g c = still_waiting c.args.self.now c.args.p c.requires.sound c.requires.used c.requires.unmoved
 
-pub overflow_mul-result : goal.overflow_mul-result
-overflow_mul-result g c =
-    let h = c.args.self.now in
-    let slot = taken_low h c.take.new.self _ c.in-Some.q c.requires.sound.kept c.take.ensures.left c.in-Some.ensures.answer in
-    omega (arith, slot, c.requires.sound.kept.few_slots)
-
-pub overflow_add-result : goal.overflow_add-result
-overflow_add-result g c =
+pub old_word-requires : goal.old_word-requires
+old_word-requires g c =
     let h = c.args.self.now in
     let slot = taken_low h c.take.new.self _ c.in-Some.q c.requires.sound.kept c.take.ensures.left c.in-Some.ensures.answer in
     omega (arith, slot, c.requires.sound.kept.few_slots)
@@ -69,7 +63,7 @@ returns g c =
     let s = holding h.slots c.put_at.new.records in
     let f = holding h.forward c.forward_to.new.rows in
     let r = c.take.new.self in
-    let k = c.with_moved-self.result in
+    let k = c.count_moved.new.self in
     let y : Copying h s f r k x p q = record {
       in_use = c.requires.used;
       unforwarded = c.requires.unmoved;
@@ -80,10 +74,10 @@ returns g c =
       targets = c.forward_to.ensures.targets;
       queue = c.forward_to.ensures.queue;
       beyond = c.forward_to.ensures.beyond;
-      counts_are = c.with_moved-self.ensures;
+      counts_are = c.count_moved.ensures;
     } in
     record {
       stage = copied_stage h s f r k x p q c.requires.sound y;
       state = copied_state g.T.Kind h s f r k x p q c.requires.sound y;
-      word = copied_word p q (arcs_of h.ring) (evacuation g.T.Kind h) c.in-Some.ensures.answer;
+      word = c.old_word.ensures ∙ copied_word p q (arcs_of h.ring) (evacuation g.T.Kind h) c.in-Some.ensures.answer;
     }

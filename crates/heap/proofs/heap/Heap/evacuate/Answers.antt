@@ -14,7 +14,7 @@ returns-in-Some-target g c =
     let h = c.args.self.now in
     let used = c.in-Some.ensures in
     let e = evacuated_before g.T.Kind h c.args.w c.in-Some.p (Some c.in-Some-target.q) c.requires used.0 used.1 c.in-Some-target.is in
-    record { stage = stage_refl h c.requires; state = ap (λ t. t.1) (sym e); word = ap (λ t. t.0) (sym e) }
+    record { stage = stage_refl h c.requires; state = ap (λ t. t.1) (sym e); word = c.old_word.ensures ∙ ap (λ t. t.0) (sym e) }
 
 pub returns-in-None : goal.returns-in-None
 returns-in-None g c =

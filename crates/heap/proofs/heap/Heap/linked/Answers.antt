@@ -1,4 +1,4 @@
-use Rattle.std.proofs.Common.{◌≡◌, ◌<◌, ◌≤◌, get_or, pos, ◌≤ℤ◌, sym, ap, ◌∙◌, subst, arith, w64, SFits, rules}
+use Rattle.std.proofs.Common.{◌≡◌, ◌<◌, ◌≤◌, get_or, pos, sym, ap, ◌∙◌, subst, arith, w64, SFits, rules}
 use Rattle.std.proofs.lemmas.Int.{to_z-of_z}
 use Rattle.rules.specs.Rules.{index, links_from}
 use Rattle.heap.specs.View.{contents}
@@ -6,24 +6,14 @@ use Rattle.heap.proofs.Linking.{front_more, front_all}
 use Rattle.heap.proofs.Named.{all_in_at, in_range_low, length_links, links_at}
 use Rattle.heap.proofs.heap.Heap.linked.Goals as goal
 
-pub index_of-i-requires : goal.index_of-i-requires
-index_of-i-requires g c =
-    let rs = c.args.links.now in
-    let z = get_or rs c.loop-k.k (pos 0) in
-    let fits : SFits w64 z = search rules in
-    subst (λ v. pos 0 ≤ℤ v) (sym (to_z-of_z w64 z fits)) (in_range_low z c.args.self.now.limits.registers (all_in_at rs c.args.self.now.limits.registers c.loop-k.k c.requires.below c.loop-k-test.true)).0
-
-pub word_in-requires : goal.word_in-requires
-word_in-requires g c =
+pub word_in-requires-clause-low : goal.word_in-requires-clause-low
+word_in-requires-clause-low g c =
     let rs = c.args.links.now in
     let n = c.args.self.now.limits.registers in
     let z = get_or rs c.loop-k.k (pos 0) in
     let fits : SFits w64 z = search rules in
     let is : c.index_of-i.result ≡ index z = c.index_of-i.ensures ∙ ap index (to_z-of_z w64 z fits) in
-    record {
-      sound = c.requires.sound;
-      low = subst (λ i. i < n) (sym is) (in_range_low z n (all_in_at rs n c.loop-k.k c.requires.below c.loop-k-test.true)).1;
-    }
+    subst (λ i. i < n) (sym is) (in_range_low z n (all_in_at rs n c.loop-k.k c.requires.below c.loop-k-test.true)).1
 
 pub loop-k-preserved : goal.loop-k-preserved
 loop-k-preserved g c =
@@ -41,14 +31,11 @@ loop-k-preserved g c =
       c.set_link.ensures.kept ∙ c.loop-k.invariant.1,
     )
 
-pub returns : goal.returns
-returns g c =
+pub returns-clause-links : goal.returns-clause-links
+returns-clause-links g c =
     let t = g.T.Kind in
     let x = c.loop-k.made in
     let rs = c.args.links.now in
     let s = contents t c.args.self.now in
     let low : t.count ≤ c.loop-k.k = omega (arith, c.requires.counted) in
-    record {
-      links = front_all (t.links x) (links_from s rs) t.count c.loop-k.k (g.met.T.Kind.counted x) (length_links s rs ∙ c.requires.counted) low c.loop-k.invariant.0;
-      plain = c.loop-k.invariant.1;
-    }
+    front_all (t.links x) (links_from s rs) t.count c.loop-k.k (g.met.T.Kind.counted x) (length_links s rs ∙ c.requires.counted) low c.loop-k.invariant.0

@@ -1,49 +1,13 @@
-use Rattle.std.proofs.Common.{suc, [], ◌∷◌, length, Err, sym, refl, ap, ◌∙◌, arith}
-use Rattle.std.proofs.lemmas.Bool.Decides.{nat_tests}
+use Rattle.std.proofs.Common.{suc, [], ◌∷◌, length, sym, ap, ◌∙◌}
 use Rattle.words.specs.Words.{nursery_word}
 use Rattle.rules.specs.Rules.{make, counts, links_from}
-use Rattle.std.proofs.lemmas.Result.{err_from_is_err_and}
-use Rattle.heap.specs.Answers.{told_count}
 use Rattle.heap.specs.Meaning.{meaning_of}
 use Rattle.heap.specs.View.{view}
 use Rattle.heap.proofs.Accepted.{make_tells, make_run, made_store, made_state, made_count, ready_tells, open_after, open_answer}
 use Rattle.heap.proofs.Found.{nursery_length}
-use Rattle.heap.proofs.Framing.{frame_refl, frame_trans}
+use Rattle.heap.proofs.Framing.{frame_trans}
 use Rattle.heap.proofs.Meanings.{same_record}
-use Rattle.heap.proofs.Refusing.{make_refuses}
-use Rattle.heap.proofs.Rooms.{place_free, slot_free}
 use Rattle.heap.proofs.heap.Heap.make.Goals as goal
-
-pub returns-in_err-i : goal.returns-in_err-i
-returns-in_err-i g c =
-    let h = c.args.self.now in
-    let s = view g.T.Kind h in
-    let fails = make_refuses g.B.Barrier.answers s c.args.d (g.T.Kind.plain c.args.template.now) c.args.links.now h.status _ c.ranges.d refl c.in_err-i.ensures in
-    let e = err_from_is_err_and c.from_residual.result c.from_residual.ensures.1 in
-    record { sound = c.requires; state = fails.state; told = ap told_count (e.1 ∙ ap Err e.2) ∙ fails.told; frame = frame_refl h }
-
-pub young_word-w-requires : goal.young_word-w-requires
-young_word-w-requires g c =
-    let h = c.args.self.now in
-    let s = view g.T.Kind h in
-    let m = make_tells h.status s.sizes s.store c.args.d c.args.links.now c.in_ok-i.i c.ranges.d c.in_ok-i.ensures in
-    omega (arith, place_free g.T.Kind h c.requires m.place, c.requires.kept.few_places)
-
-pub linked-made-requires : goal.linked-made-requires
-linked-made-requires g c =
-    let h = c.args.self.now in
-    let s = view g.T.Kind h in
-    let rs = c.args.links.now in
-    let m = make_tells h.status s.sizes s.store c.args.d rs c.in_ok-i.i c.ranges.d c.in_ok-i.ensures in
-    let many = m.counted in
-    record { sound = c.requires; below = m.sources; counted = grind (arith, nat_tests) }
-
-pub add_record-requires : goal.add_record-requires
-add_record-requires g c =
-    let h = c.args.self.now in
-    let s = view g.T.Kind h in
-    let m = make_tells h.status s.sizes s.store c.args.d c.args.links.now c.in_ok-i.i c.ranges.d c.in_ok-i.ensures in
-    record { sound = c.requires; place = place_free g.T.Kind h c.requires m.place; slot = slot_free g.T.Kind h c.requires m.slot }
 
 pub returns : goal.returns
 returns g c =

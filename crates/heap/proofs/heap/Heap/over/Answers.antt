@@ -1,47 +1,47 @@
-use Rattle.std.proofs.Common.{◌≤◌, map, take, sym, refl, ◌∙◌, subst, arith}
+use Rattle.std.proofs.Common.{◌≤◌, sym, refl, ◌∙◌, subst, arith}
 use Rattle.ring.specs.View.{arcs_of}
-use Rattle.registers.specs.Answers.{told_why}
-use Rattle.registers.specs.State.{sizes_in}
-use Rattle.registers.proofs.Opens.{emptied}
-use Rattle.heap.specs.Meaning.{meaning_of}
-use Rattle.heap.proofs.Beginning.{tables_longs, all_free, no_white, new_state, left_rest}
+use Rattle.registers.proofs.Opens.{filled}
+use Rattle.heap.proofs.Beginning.{tables_longs, all_free, no_white, left_rest}
 use Rattle.heap.proofs.heap.Heap.over.Goals as goal
 
-pub returns : goal.returns
-returns g c =
+pub returns-clause-sound : goal.returns-clause-sound
+returns-clause-sound g c =
     let t = c.args.tables in
     let l = c.args.limits in
     let ring = c.new.result in
     let counts = c.new-2.ensures in
     let long = tables_longs l.slots l.places l.registers t c.requires.long in
     let begun = c.new.ensures.begun (long.next, long.previous, long.stamp) in
-    let table = t.registers.now in
-    let clear = emptied l.registers table c.fill.new.self long.registers c.fill.ensures.len (c.fill.ensures.after (λ y h. h)) in
+    let clear = filled l.registers t.registers.now c.fill.new.self 0 long.registers c.fill.ensures.len (c.fill.ensures.after (λ y h. h)) in
     record {
-      sound = record {
-        kept = record {
-          long = (subst (λ n. l.registers ≤ n) (sym clear.size) long.registers, long.nursery, long.slots, long.forward, long.notes);
-          fine = c.new.ensures.sound;
-          ring_size = begun.slots_are;
-          counted = (counts.0, omega (arith, counts.1, all_free l.slots (arcs_of ring) begun.arcs_are), counts.2 ∙ no_white l.slots (arcs_of ring) begun.arcs_are);
-          used_low = omega arith;
-          noted_low = omega arith;
-          remembered = λ i low. absurd (omega arith);
-          few_slots = c.requires.slots;
-          few_places = c.requires.places;
-        };
-        waiting = counts.3;
+      kept = record {
+        long = (subst (λ n. l.registers ≤ n) (sym clear.size) long.registers, long.nursery, long.slots, long.forward, long.notes);
+        fine = c.new.ensures.sound;
+        ring_size = begun.slots_are;
+        counted = (counts.0, omega (arith, counts.1, all_free l.slots (arcs_of ring) begun.arcs_are), counts.2 ∙ no_white l.slots (arcs_of ring) begun.arcs_are);
+        used_low = omega arith;
+        noted_low = omega arith;
+        remembered = λ i low. absurd (omega arith);
+        few_slots = c.requires.slots;
+        few_places = c.requires.places;
       };
-      state = new_state (told_why c.args.status) (sizes_in g.T.Kind.count l) (map (meaning_of g.T.Kind) (take l.slots t.slots.now)) _ _ _ clear.front begun.arcs_are c.new.ensures.closed;
-      lent = record {
-        nursery_same = refl {a = t.nursery.now};
-        slots_same = refl {a = t.slots.now};
-        forward_same = refl {a = t.forward.now};
-        notes_same = refl {a = t.notes.now};
-        registers_rest = record { rest = clear.rest; size = clear.size };
-        next_rest = left_rest _ _ _ begun.next_kept;
-        previous_rest = left_rest _ _ _ begun.previous_kept;
-        stamp_rest = left_rest _ _ _ begun.stamp_kept;
-      };
-      barrier = refl {a = c.args.barrier};
+      waiting = counts.3;
+    }
+
+pub returns-clause-lent : goal.returns-clause-lent
+returns-clause-lent g c =
+    let t = c.args.tables in
+    let l = c.args.limits in
+    let long = tables_longs l.slots l.places l.registers t c.requires.long in
+    let begun = c.new.ensures.begun (long.next, long.previous, long.stamp) in
+    let clear = filled l.registers t.registers.now c.fill.new.self 0 long.registers c.fill.ensures.len (c.fill.ensures.after (λ y h. h)) in
+    record {
+      nursery_same = refl {a = t.nursery.now};
+      slots_same = refl {a = t.slots.now};
+      forward_same = refl {a = t.forward.now};
+      notes_same = refl {a = t.notes.now};
+      registers_rest = record { rest = clear.rest; size = clear.size };
+      next_rest = left_rest _ _ _ begun.next_kept;
+      previous_rest = left_rest _ _ _ begun.previous_kept;
+      stamp_rest = left_rest _ _ _ begun.stamp_kept;
     }

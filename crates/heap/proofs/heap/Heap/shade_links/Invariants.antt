@@ -4,8 +4,8 @@ use Rattle.heap.specs.Carrying.{Carried}
 use Rattle.heap.specs.View.{contents}
 use Rattle.heap.proofs.heap.Heap.shade_links.Given as goal
 
-abbrev pub invariant-loop-k : goal.invariant-loop-k
-invariant-loop-k g l =
+abbrev pub invariant-loop-w : goal.invariant-loop-w
+invariant-loop-w g l =
     let s = contents g.T.Kind l.initial.self in
     Carried l.initial.self l.self
-    × (contents g.T.Kind l.self ≡ with_arcs (shade_all (take l.k l.links) s.arcs) s)
+    × (contents g.T.Kind l.self ≡ with_arcs (shade_all (take l.w-index l.w-items) s.arcs) s)

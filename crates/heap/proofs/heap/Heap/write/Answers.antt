@@ -5,39 +5,33 @@ use Rattle.rules.specs.Rules.{write, do_write, index}
 use Rattle.registers.specs.Answers.{told_done}
 use Rattle.heap.specs.View.{view}
 use Rattle.heap.proofs.Accepted.{index_tells, open_after, open_answer}
-use Rattle.heap.proofs.Collections.{write_out, write_run, written_is}
-use Rattle.heap.proofs.Framing.{frame_refl}
-use Rattle.heap.proofs.Refusing.{register_refuses, register_taken, link_refuses, link_taken}
+use Rattle.heap.proofs.Collections.{write_run, written_is}
+use Rattle.heap.proofs.Refusing.{register_taken, link_refuses, link_taken}
 use Rattle.heap.proofs.heap.Heap.write.Goals as goal
 
-pub returns-in_err-i : goal.returns-in_err-i
-returns-in_err-i g c =
-    let h = c.args.self.now in
-    let s = view g.T.Kind h in
-    let fails = register_refuses g.B.Barrier.answers s (write c.args.s c.args.k c.args.t) c.args.t h.status _ c.ranges.t refl c.in_err-i.ensures (λ out. write_out s.sizes g.B.Barrier.answers s.store c.args.s c.args.k c.args.t out) in
-    let e = err_from_is_err_and c.from_residual.result c.from_residual.ensures.1 in
-    record { sound = c.requires; state = fails.state; told = ap told_done (e.1 ∙ ap Err e.2) ∙ fails.told; frame = frame_refl h }
-
-pub returns-in_err-at : goal.returns-in_err-at
-returns-in_err-at g c =
+pub returns-in_err-at-clause-state : goal.returns-in_err-at-clause-state
+returns-in_err-at-clause-state g c =
     let h = c.args.self.now in
     let s = view g.T.Kind h in
     let b = g.B.Barrier.answers in
     let (now_open, is) = register_taken h.status h.limits.registers c.args.t c.in_ok-i.i c.ranges.t c.in_ok-i.ensures in
     let (t_in, (t_is, t_low)) = index_tells NoSuchRegister h.limits.registers c.args.t c.in_ok-i.i c.ranges.t is in
     let fails = link_refuses b s (write c.args.s c.args.k c.args.t) c.args.s c.args.k _ c.ranges.s c.ranges.k now_open c.in_err-at.ensures.place (λ out. rw out) (λ ins out. rw (ins, t_in, out)) (λ ins k_in none. write_run s.sizes b s.store c.args.s c.args.k c.args.t (index c.args.s) _ ins t_in k_in refl none) in
-    let e = err_from_is_err_and c.from_residual-in_err-at.result c.from_residual-in_err-at.ensures.1 in
-    record { sound = c.requires; state = fails.state; told = ap told_done (e.1 ∙ ap Err e.2) ∙ fails.told; frame = frame_refl h }
+    fails.state
 
-pub word_in-w-requires : goal.word_in-w-requires
-word_in-w-requires g c =
+pub returns-in_err-at-clause-told : goal.returns-in_err-at-clause-told
+returns-in_err-at-clause-told g c =
     let h = c.args.self.now in
+    let s = view g.T.Kind h in
+    let b = g.B.Barrier.answers in
     let (now_open, is) = register_taken h.status h.limits.registers c.args.t c.in_ok-i.i c.ranges.t c.in_ok-i.ensures in
     let (t_in, (t_is, t_low)) = index_tells NoSuchRegister h.limits.registers c.args.t c.in_ok-i.i c.ranges.t is in
-    record { sound = c.requires; low = t_low }
+    let fails = link_refuses b s (write c.args.s c.args.k c.args.t) c.args.s c.args.k _ c.ranges.s c.ranges.k now_open c.in_err-at.ensures.place (λ out. rw out) (λ ins out. rw (ins, t_in, out)) (λ ins k_in none. write_run s.sizes b s.store c.args.s c.args.k c.args.t (index c.args.s) _ ins t_in k_in refl none) in
+    let (e, is_err, e_is) = err_from_is_err_and c.from_residual-in_err-at.result c.from_residual-in_err-at.ensures.1 in
+    ap told_done (is_err ∙ ap Err e_is) ∙ fails.told
 
-pub returns : goal.returns
-returns g c =
+pub returns-clause-state : goal.returns-clause-state
+returns-clause-state g c =
     let h = c.args.self.now in
     let s = view g.T.Kind h in
     let b = g.B.Barrier.answers in
@@ -49,11 +43,19 @@ returns g c =
     let (t_in, (t_is, t_low)) = index_tells NoSuchRegister h.limits.registers c.args.t c.in_ok-i.i c.ranges.t is in
     let l = link_taken s.sizes s.store c.args.s c.args.k at n c.ranges.s c.ranges.k c.in_ok-at.ensures.place in
     let run = write_run s.sizes b s.store c.args.s c.args.k c.args.t (index c.args.s) _ l.register_in t_in l.link_in refl l.found ∙ written_is s.sizes b s.store c.args.k c.args.t n c.in_ok-i.i w at l.index_is t_is c.word_in-w.ensures in
-    let x = (do_write s.sizes b s.store n w at).0 in
-    let a = (do_write s.sizes b s.store n w at).1 in
-    record {
-      sound = c.write_at.ensures.sound;
-      state = c.write_at.ensures.state ∙ open_after b s call x a now_open run;
-      told = c.write_at.ensures.told ∙ open_answer b s call x a now_open run;
-      frame = c.write_at.ensures.frame;
-    }
+    c.write_at.ensures.state ∙ open_after b s call (do_write s.sizes b s.store n w at).0 (do_write s.sizes b s.store n w at).1 now_open run
+
+pub returns-clause-told : goal.returns-clause-told
+returns-clause-told g c =
+    let h = c.args.self.now in
+    let s = view g.T.Kind h in
+    let b = g.B.Barrier.answers in
+    let call = write c.args.s c.args.k c.args.t in
+    let at = c.in_ok-at.at in
+    let n = c.in_ok-at.n in
+    let w = c.word_in-w.result in
+    let (now_open, is) = register_taken h.status h.limits.registers c.args.t c.in_ok-i.i c.ranges.t c.in_ok-i.ensures in
+    let (t_in, (t_is, t_low)) = index_tells NoSuchRegister h.limits.registers c.args.t c.in_ok-i.i c.ranges.t is in
+    let l = link_taken s.sizes s.store c.args.s c.args.k at n c.ranges.s c.ranges.k c.in_ok-at.ensures.place in
+    let run = write_run s.sizes b s.store c.args.s c.args.k c.args.t (index c.args.s) _ l.register_in t_in l.link_in refl l.found ∙ written_is s.sizes b s.store c.args.k c.args.t n c.in_ok-i.i w at l.index_is t_is c.word_in-w.ensures in
+    c.write_at.ensures.told ∙ open_answer b s call (do_write s.sizes b s.store n w at).0 (do_write s.sizes b s.store n w at).1 now_open run
