@@ -2,6 +2,7 @@
 #![tactic(auto)]
 
 pub mod fault;
+pub mod program;
 mod row;
 pub mod run;
 pub mod seen;

@@ -1,18 +1,10 @@
 -- Plans that grow call by call.
-use Rattle.std.proofs.Common.{◌≡◌, ℕ, ◌+◌, ◌<◌, ◌≤◌, cond, List, [], ◌∷◌, ◌++◌, map, length, get_or, take, ℤ, is_ok, Ok, Result, sym, refl, ap, ◌∙◌}
+use Rattle.std.proofs.Common.{◌≡◌, ℕ, ◌+◌, ◌<◌, ◌≤◌, List, [], ◌∷◌, ◌++◌, map, length, get_or, take, ℤ, sym, refl, ap, ◌∙◌}
 use Rattle.std.proofs.lemmas.List.{append_assoc, map-append, take_all, take_more}
 use Rattle.rules.specs.Rules.{Call, make}
 use Rattle.kinds.specs.Doses.{dose_plain}
-use Rattle.kinds.specs.contracts.dose.DoseKind.TheImpl.{ghosts}
 use Rattle.kinds.specs.declared.dose.Dose.{Dose}
-use Rattle.kinds.specs.declared.fault.StoreFault.{StoreFault}
-use Rattle.store.specs.Calls.{call_of}
-use Rattle.store.specs.declared.call.Call.{Call as Asked}
-use Rattle.dosing_day.specs.Plan.{meant, batch}
-
--- one call more
-pub pushed : {U E : Type 0} (r : Result U E) (u : U) (was is : List (Asked Dose)) (c : Asked Dose) → is ≡ cond (is_ok r) (was ++ (c ∷ [])) was → r ≡ Ok u → meant is ≡ meant was ++ meant (c ∷ [])
-pushed r u was is c e ok = ap meant (e ∙ ap (λ x. cond (is_ok x) (was ++ (c ∷ [])) was) ok) ∙ map-append (call_of ghosts) was (c ∷ [])
+use Rattle.dosing_day.specs.Plan.{batch}
 
 -- more calls after others
 pub then : (was mid is xs ys : List Call) → mid ≡ was ++ xs → is ≡ mid ++ ys → is ≡ was ++ (xs ++ ys)
@@ -34,7 +26,3 @@ batch_more valve xs i d was mid is low e f =
 pub batch_all : (valve v : ℤ) (xs : List Dose) (i : ℕ) (was is : List Call) → v ≡ valve → length xs ≤ i → is ≡ was ++ batch v (map dose_plain (take i xs)) → is ≡ was ++ batch valve (map dose_plain xs)
 batch_all valve v xs i was is same high e =
     e ∙ ap (λ l. was ++ batch v (map dose_plain l)) (take_all i xs high) ∙ ap (λ w. was ++ batch w (map dose_plain xs)) same
-
--- the plain part of a dose that was built
-pub plain_of : (d e : Dose) → ◌≡◌ {A = Result Dose StoreFault} (Ok d) (Ok e) → dose_plain d ≡ dose_plain e
-plain_of d e h = let same : d ≡ e = cc in ap dose_plain same

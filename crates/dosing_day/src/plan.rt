@@ -47,8 +47,8 @@ fn add_batch(
 ) -> Result<(), AllocError>
     ensures { OnOk result (meant calls.new.items ≡ meant calls.old.items ++ batch valve (map dose_plain portions.now)) }
 {
-    for i in 0..portions.len() {
-        add_portion(heap, calls, valve, portions[i])?;
+    for portion in portions {
+        add_portion(heap, calls, valve, *portion)?;
     }
     Ok(())
 }

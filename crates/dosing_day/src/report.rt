@@ -1,5 +1,4 @@
 // What is printed of a day: a line for each call, and a line for each valve.
-use heap::stepped::Stepped;
 use heap::tally::Tally;
 use kinds::dose::{Dose, Mark};
 use kinds::fault::StoreFault;
@@ -12,10 +11,11 @@ fn print_call(rt: &HostRuntime, call: &Call<Dose>) -> io::Result<()> {
     match call {
         Call::Make { d, template, .. } => {
             let weight = template.weight();
-            match template.mark() {
-                Mark::Dose => print!(rt; "valve {d}, dose of {weight} mg"),
-                Mark::Flush => print!(rt; "valve {d}, flush of {weight} mg"),
-            }
+            let mark = match template.mark() {
+                Mark::Dose => "dose",
+                Mark::Flush => "flush",
+            };
+            print!(rt; "valve {d}, {mark} of {weight} mg")
         }
         Call::Empty { r } => print!(rt; "valve {r}, batch dropped"),
         Call::Copy { d, s } => print!(rt; "valve {d}, as valve {s}"),
@@ -27,19 +27,13 @@ fn print_call(rt: &HostRuntime, call: &Call<Dose>) -> io::Result<()> {
     }
 }
 
-fn print_collected(rt: &HostRuntime, s: &Stepped) -> io::Result<()> {
-    let cycle = if s.cycle_open { "open" } else { "closed" };
-    let copied = s.copied;
-    let scanned = s.scanned;
-    let freed = s.freed;
-    println!(rt; ": copied {copied}, scanned {scanned}, freed {freed}, cycle {cycle}")
-}
-
-fn print_lengths(rt: &HostRuntime, l: &Lengths) -> io::Result<()> {
-    let free = l.free;
-    let white = l.white;
-    let grey = l.grey;
-    let black = l.black;
+fn print_lengths(rt: &HostRuntime, lengths: &Lengths) -> io::Result<()> {
+    let Lengths {
+        free,
+        white,
+        grey,
+        black,
+    } = *lengths;
     println!(rt; ": free {free}, white {white}, grey {grey}, black {black}")
 }
 
@@ -47,7 +41,7 @@ fn print_lengths(rt: &HostRuntime, l: &Lengths) -> io::Result<()> {
 fn print_answer(rt: &HostRuntime, answer: &Result<Answer<Dose>, StoreFault>) -> io::Result<()> {
     match answer {
         Ok(Answer::Count(n)) => println!(rt; ": {n} in the nursery"),
-        Ok(Answer::Collected(s)) => print_collected(rt, s),
+        Ok(Answer::Collected(s)) => println!(rt; ": {s}"),
         Ok(Answer::Arcs(l)) => print_lengths(rt, l),
         Ok(_) => println!(rt; ": done"),
         Err(e) => {
@@ -77,11 +71,7 @@ pub fn print_tally(
     tally: Result<Tally, StoreFault>,
 ) -> io::Result<()> {
     match tally {
-        Ok(t) => {
-            let flushes = t.flushes;
-            let weight = t.weight;
-            println!(rt; "valve {valve}: flushes {flushes}, together {weight} mg")
-        }
+        Ok(t) => println!(rt; "valve {valve}: {t}"),
         Err(e) => {
             let number = e.number();
             println!(rt; "valve {valve}: refused with {number}")

@@ -8,13 +8,11 @@ use std::{env, fs};
 // Runs the sheet in a file.
 fn run_file(rt: &HostRuntime, name: &str) -> anyhow::Result<()> {
     let input = fs::read(rt, name)?;
-    match pair_sheet::run::run(rt.alloc(), &input) {
-        Ok(answers) => {
-            rt.stdout().write_all(&answers)?;
-            Ok(())
-        }
-        Err(_) => Err(anyhow!("no memory for the answers")),
-    }
+    let answers = pair_sheet::run::run(rt.alloc(), &input).map_err(|_| anyhow!(
+        "no memory for the answers"
+    ))?;
+    rt.stdout().write_all(&answers)?;
+    Ok(())
 }
 
 fn main(rt: HostRuntime) -> anyhow::Result<()> {

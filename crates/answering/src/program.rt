@@ -1,0 +1,47 @@
+// The program of a sheet: what it reads from standard input it answers on standard output.
+ghost use Rattle.std.specs.Prelude.{◌≡◌};
+ghost use Rattle.answering.specs.declared.program.ProgramFault.TheVariants.{Stream, Row};
+
+use lines::answer::RowFault;
+use std::alloc::Global;
+use std::io;
+use std::io::{Read, Write};
+
+// Why the program ends before its answers are written.
+#[derive(Debug, Drop)]
+pub enum ProgramFault {
+    // Standard input cannot be read, or standard output not written.
+    Stream(io::Error),
+    // An answer line cannot be kept.
+    Row(RowFault),
+}
+
+impl From<io::Error> for ProgramFault {
+    ghost from_gives = { λ e r. r ≡ Stream e };
+
+    fn from(e: io::Error) -> ProgramFault {
+        ProgramFault::Stream(e)
+    }
+}
+
+impl From<RowFault> for ProgramFault {
+    ghost from_gives = { λ e r. r ≡ Row e };
+
+    fn from(e: RowFault) -> ProgramFault {
+        ProgramFault::Row(e)
+    }
+}
+
+// Reads a sheet, runs it and writes its answers.
+pub fn answer_input<F: FnOnce(Global, &[u8]) -> Result<Vec<u8>, RowFault>>(
+    rt: &HostRuntime,
+    run: F,
+) -> Result<(), ProgramFault>
+    requires { F.IsAlwaysCallable run }
+{
+    let mut input = Vec::new(rt.alloc());
+    rt.stdin().read_to_end(&mut input)?;
+    let answers = run(rt.alloc(), &input)?;
+    rt.stdout().write_all(&answers)?;
+    Ok(())
+}
