@@ -1,32 +1,23 @@
 -- The columns of an answer line, one by one.
-use Rattle.std.proofs.Common.{◌≡◌, ℕ, ◌+◌, ◌-◌, ◌*◌, ◌<◌, true, false, cond, ◌&&◌, List, [], ◌∷◌, ◌++◌, length, get_or, take, drop, replicate, ℤ, Some, None, sym, refl, ap, ◌∙◌, ⊎_elim, append_assoc, arith}
+use Rattle.std.proofs.Common.{◌≡◌, ℕ, ◌+◌, ◌-◌, ◌*◌, ◌<◌, true, cond, ◌&&◌, List, [], ◌++◌, length, get_or, take, drop, replicate, ℤ, Some, None, sym, ap, ◌∙◌, ⊎_elim, append_assoc, arith}
 use borrow.Rule.Slice.PartMut.{put_mid}
 use Rattle.std.specs.List.{flat_map}
-use Rattle.std.proofs.lemmas.List.{length-append, length_push, take_at, drop_at, drop-replicate, take_more, take_all, at_drop_more, at_drop_all, flat_map_more}
-use Rattle.std.proofs.lemmas.Bool.{cond-true, cond-false, cases_Bool, and_parts, and_left}
+use Rattle.std.proofs.lemmas.List.{length-append, take_at, drop_at, drop-replicate, take_more, take_all, at_drop_more, at_drop_all, flat_map_more}
+use Rattle.std.proofs.lemmas.Bool.{cond-true, cond-false, cases_Bool}
 use Rattle.lines.specs.Columns.{fits_column, row_of, written}
 use Rattle.lines.specs.Answers.{row_bytes, all_fit}
 use Rattle.lines.proofs.Columns.{length_row}
 
--- what was written, and what was not
+-- what was written
 pub written_some : (v : ℤ) (row : List ℕ) → written v ≡ Some row → (fits_column v ≡ true) × (row ≡ row_of v)
 written_some v row e = ⊎_elim
     (λ yes'. let k : Some (row_of v) ≡ Some row = sym (cond-true _ _ _ yes') ∙ e in (yes', cc))
     (λ no'. let k : None ≡ Some row = sym (cond-false _ _ _ no') ∙ e in let z : ◌≡◌ {A = ℕ} 0 1 = cc in absurd (omega arith))
     (cases_Bool (fits_column v))
 
-pub written_none : (v : ℤ) → written v ≡ None → fits_column v ≡ false
-written_none v e = ⊎_elim
-    (λ yes'. let k : Some (row_of v) ≡ None = sym (cond-true _ _ _ yes') ∙ e in let z : ◌≡◌ {A = ℕ} 0 1 = cc in absurd (omega arith))
-    (λ no'. no')
-    (cases_Bool (fits_column v))
-
 -- one number more
 all_fit_more : (vs : List ℤ) (i : ℕ) (d : ℤ) → i < length vs → fits_column (get_or vs i d) ≡ true → all_fit (drop i vs) ≡ all_fit (drop (i + 1) vs)
 all_fit_more vs i d within fits = at_drop_more all_fit vs i d within ∙ ap (λ t. t && all_fit (drop (i + 1) vs)) fits
-
-pub all_fit_stop : (vs : List ℤ) (i : ℕ) (d : ℤ) → i < length vs → fits_column (get_or vs i d) ≡ false → all_fit (drop i vs) ≡ false
-all_fit_stop vs i d within bad = at_drop_more all_fit vs i d within ∙ and_left (fits_column (get_or vs i d)) (all_fit (drop (i + 1) vs)) bad
 
 -- a row in place of the first k newlines behind what is written
 put_after : (front row : List ℕ) (a k n m : ℕ) → length front ≡ a → n - k ≡ m → put_mid a k (front ++ replicate n 10) row ≡ (front ++ row) ++ replicate m 10
@@ -52,10 +43,6 @@ module _ (values : List ℤ) (line : List ℕ) (i : ℕ) (d : ℤ) (within : i <
         fit = sym (all_fit_more values i d within p.0) ∙ so_far.fit;
       }
 
-  -- a number that does not fit
-  pub partial_stop : written (get_or values i d) ≡ None → None ≡ cond (all_fit values) (Some (row_bytes values)) None
-  partial_stop w = sym (cond-false _ _ _ (sym so_far.fit ∙ all_fit_stop values i d within (written_none (get_or values i d) w)))
-
 -- all five
 pub partial_done : (values : List ℤ) (line : List ℕ) (i : ℕ) → length values ≡ 5 → i ≡ 5 → Partial values line i → Some line ≡ cond (all_fit values) (Some (row_bytes values)) None
 unfolding row_bytes
@@ -64,14 +51,3 @@ partial_done values line i five all so_far =
     let whole : take i values ≡ values = take_all i values (omega arith) in
     let last : 51 - 10 * i ≡ 1 = omega arith in
     ap Some (so_far.is ∙ ap (λ l. flat_map row_of l ++ replicate (51 - 10 * i) 10) whole ∙ ap (λ n. flat_map row_of values ++ replicate n 10) last) ∙ sym (cond-true _ _ _ fits)
-
--- an answer line has 51 bytes
-length_columns : (values : List ℤ) → all_fit values ≡ true → length (flat_map row_of values) ≡ 10 * length values
-length_columns [] fit = refl
-length_columns (v ∷ vs) fit =
-    let p = and_parts (fits_column v) (all_fit vs) fit in
-    length-append (row_of v) (flat_map row_of vs) ∙ omega (arith, length_row v p.0, length_columns vs p.1)
-
-pub length_row_bytes : (values : List ℤ) → all_fit values ≡ true → length values ≡ 5 → length (row_bytes values) ≡ 51
-unfolding row_bytes
-length_row_bytes values fit five = length_push (flat_map row_of values) 10 ∙ omega (arith, length_columns values fit)

@@ -152,23 +152,6 @@ column_laws = record {
   blank = λ row. (blank_read row, λ e. ap column e ∙ column_blank);
 }
 
--- a number that was read fits a column
-pub read_fits : (row : List ℕ) (v : ℤ) → column row ≡ Number v → fits_column v ≡ true
-read_fits row v e = (row_read row v e).0
-
--- a row of another length is no number
-pub column_other : (row : List ℕ) → (length row ≡ 10 → ⊥) → column row ≡ NoNumber
-unfolding column
-column_other row other = cond-false _ _ _ (ne_eqb (length row) 10 other)
-
-pub column_ten : (row : List ℕ) → length row ≡ 10 → column row ≡ justified (drop (blanks row) row)
-unfolding column
-column_ten row ten = cond-true _ _ _ (eq-eqb (length row) 10 ten)
-
-pub justified_minus : (text : List ℕ) → 0 < length text → get_or text 0 0 ≡ 45 → justified text ≡ negative (natural (drop 1 text))
-justified_minus [] some first = absurd (omega arith)
-justified_minus (b ∷ bs) some first = cond-true _ _ _ (eq-eqb b 45 first)
-
 -- one digit more at the left
 module _ (row ds : List ℕ) (at rest : ℕ) (within : at ≤ length row) (room : length (decimal rest) ≤ at) (small : rest < 2 ^ 64) (so_far : decimal rest ++ drop at row ≡ ds) where
   before : 1 ≤ at

@@ -1,12 +1,11 @@
 -- Digits that are read one by one, and what they write.
-use Rattle.std.proofs.Common.{◌≡◌, ℕ, ◌+◌, ◌-◌, ◌*◌, ◌^◌, ◌<◌, ◌≤◌, true, false, eqb, leb, List, [], ◌∷◌, length, get_or, drop, Some, None, decimal, sym, refl, ap, ◌∙◌, ⊎_elim, arith}
+use Rattle.std.proofs.Common.{◌≡◌, ℕ, ◌+◌, ◌-◌, ◌*◌, ◌^◌, ◌<◌, ◌≤◌, true, eqb, leb, List, [], ◌∷◌, length, get_or, Some, None, decimal, sym, refl, ap, ◌∙◌, ⊎_elim, arith}
 use native.Mathlib.Nat.{pow-le-pow_right}
 use Rattle.std.specs.Str.Parse.{AllDigits, digits_value, digits_value_after}
 use Rattle.std.specs.Int.{IsInRange}
 use Rattle.std.specs.Char.{digit_value}
 use Rattle.std.proofs.lemmas.Fmt.{decimal_is_IsNumeral, decimal-digits_value, decimal_digit, first_decimal, decimal_nonempty}
 use Rattle.std.proofs.lemmas.Int.Digits.{digits_value-lt}
-use Rattle.std.proofs.lemmas.List.{at_drop_more}
 use Rattle.std.proofs.lemmas.Str.Parse.{IsNumeralModel, tells_digits, numerals_by_value}
 use Rattle.std.proofs.lemmas.Bool.{leb-true, le-leb, and_parts, and_from, eqb-false, ne_eqb, cond-true, cond-false, lt-ltb, le-ltb, cases_lt, cases_Bool}
 use Rattle.lines.specs.Columns.{is_digit, digits_after, natural}
@@ -16,13 +15,6 @@ digit_yes b low high = and_from (leb 48 b) (leb b 57) (le-leb 48 b low) (le-leb 
 
 pub digit_range : (b : ℕ) → is_digit b ≡ true → IsInRange 48 57 b
 digit_range b e = let p = and_parts (leb 48 b) (leb b 57) e in (leb-true 48 b p.0, leb-true b 57 p.1)
-
--- the next digit, and a byte that is none
-pub digits_more : (n : ℕ) (ds : List ℕ) (i : ℕ) → i < length ds → is_digit (get_or ds i 0) ≡ true → digits_after n (drop i ds) ≡ digits_after (n * 10 + (get_or ds i 0 - 48)) (drop (i + 1) ds)
-digits_more n ds i h e = at_drop_more (digits_after n) ds i 0 h ∙ cond-true _ _ _ e
-
-pub digits_stop : (n : ℕ) (ds : List ℕ) (i : ℕ) → i < length ds → is_digit (get_or ds i 0) ≡ false → digits_after n (drop i ds) ≡ None
-digits_stop n ds i h e = at_drop_more (digits_after n) ds i 0 h ∙ cond-false _ _ _ e
 
 -- std's words for the same
 digit_back : (b : ℕ) → IsInRange 48 57 b → digit_value b ≡ b - 48

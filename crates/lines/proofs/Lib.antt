@@ -2,7 +2,6 @@ pub mod Places
 pub mod Digits
 pub mod Columns
 pub mod Lines
-pub mod Commands
 pub mod Requests
 pub mod Answers
 pub mod Spelled

@@ -1,11 +1,11 @@
 -- Lines, from the first byte and from a place in the input.
-use Rattle.std.proofs.Common.{◌≡◌, ℕ, suc, ◌+◌, ◌-◌, ◌<◌, ◌≤◌, min, Bool, true, false, not, eqb, leb, List, [], ◌∷◌, ◌++◌, length, take, drop, sym, refl, ap, ◌∙◌, ⊎_elim, one-add, arith}
+use Rattle.std.proofs.Common.{◌≡◌, ℕ, suc, ◌+◌, ◌<◌, ◌≤◌, min, Bool, true, false, not, eqb, leb, List, [], ◌∷◌, ◌++◌, length, take, drop, sym, refl, ap, ◌∙◌, ⊎_elim, one-add, arith}
 use Rattle.std.specs.List.{prefix_len, between, AllByRecursion}
 use Rattle.std.proofs.lemmas.Bool.Decides.{nat_tests}
-use Rattle.std.proofs.lemmas.List.{take_rest, drop_all, drop-drop, length-drop}
+use Rattle.std.proofs.lemmas.List.{take_rest, drop_all, length-drop}
 use Rattle.std.proofs.lemmas.List.Sums.{prefix_len-le-length}
 use Rattle.std.proofs.lemmas.Bool.{ne_eqb, cond-true, cond-false, cases_Bool, not_from_true, not_from_false}
-use Rattle.lines.specs.Lines.{onto_first, lines, line_end, InLine, LineLaws}
+use Rattle.lines.specs.Lines.{onto_first, lines, InLine, LineLaws}
 
 -- no newline
 abbrev pub in_line : ℕ → Bool
@@ -36,20 +36,6 @@ lines_first (b ∷ c ∷ cs) some = ⊎_elim
 pub lines_none : (input : List ℕ) (p : ℕ) → length input ≤ p → lines (drop p input) ≡ []
 unfolding lines
 lines_none input p past = ap lines (drop_all p input past)
-
--- the end of a line as a sum
-end_is : (input : List ℕ) (p : ℕ) → p ≤ length input → line_end input p ≡ p + prefix_len in_line (drop p input)
-unfolding line_end
-end_is input p within = omega (arith, prefix_len-le-length in_line (drop p input), length-drop p input)
-
--- the line that begins at p, and the lines after it
-pub lines_more : (input : List ℕ) (p : ℕ) → p < length input → lines (drop p input) ≡ between p (line_end input p) input ∷ lines (drop (line_end input p + 1) input)
-lines_more input p within =
-    let n : ℕ = prefix_len in_line (drop p input) in
-    let e : line_end input p ≡ p + n = end_is input p (omega arith) in
-    let size : n ≡ line_end input p - p = omega arith in
-    let next : p + suc n ≡ line_end input p + 1 = omega arith in
-    lines_first (drop p input) (omega (arith, length-drop p input)) ∙ ap (λ k. take k (drop p input) ∷ lines (drop (suc n) (drop p input))) size ∙ ap (λ l. between p (line_end input p) input ∷ lines l) (drop-drop (suc n) p input ∙ ap (λ k. drop k input) next)
 
 -- the first line and what follows its newline, as slices
 pub first_line : (input : List ℕ) (e m : ℕ) → 0 < length input → e ≡ prefix_len in_line input → m ≡ min (e + 1) (length input) → (lines input ≡ take e input ∷ lines (between m (length input) input)) × (length (between m (length input) input) < length input)

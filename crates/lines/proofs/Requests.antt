@@ -1,11 +1,9 @@
 -- A line, test by test.
-use Rattle.std.proofs.Common.{◌≡◌, ℕ, true, false, List, take, ℤ, Some, None, Ok, Err, Option, Result, sym, ap, ◌∙◌}
-use Rattle.std.specs.Option.{ok_or}
-use Rattle.std.specs.Result.{result_ok}
+use Rattle.std.proofs.Common.{◌≡◌, ℕ, true, false, List, take, ℤ, Some, Ok, Err, Option, Result, sym, ap, ◌∙◌}
 use Rattle.std.specs.List.{between}
 use Rattle.std.proofs.lemmas.Bool.{cond-true, cond-false}
 use Rattle.lines.specs.declared.request.FormatFault.{FormatFault}
-use Rattle.lines.specs.declared.request.FormatFault.TheVariants.{NotALine, UnknownCommand}
+use Rattle.lines.specs.declared.request.FormatFault.TheVariants.{NotALine}
 use Rattle.lines.specs.Columns.{column}
 use Rattle.lines.specs.CommandSets.{Commands, command_named}
 use Rattle.lines.specs.Lines.{good_line}
@@ -25,18 +23,5 @@ module _ {C : Type 0} (set : Commands C) (line : List ℕ) (command : C) (used :
   fields : parsed set line ≡ with_fields command (field_read used 1 (column (between 6 16 line))) (field_read used 2 (column (between 16 26 line))) (field_read used 3 (column (between 26 36 line)))
   fields = parsed_good set line (Some command) good named ∙ ap (λ n. with_fields command (field_read n 1 (column (between 6 16 line))) (field_read n 2 (column (between 16 26 line))) (field_read n 3 (column (between 26 36 line)))) (sym count)
 
-  pub first_bad : (fault : FormatFault) → field_read used 1 (column (between 6 16 line)) ≡ Err fault → parsed set line ≡ Err fault
-  first_bad fault e = fields ∙ ap (λ r. with_fields command r (field_read used 2 (column (between 16 26 line))) (field_read used 3 (column (between 26 36 line)))) e
-
-  pub second_bad : (x : ℤ) (fault : FormatFault) → field_read used 1 (column (between 6 16 line)) ≡ Ok x → field_read used 2 (column (between 16 26 line)) ≡ Err fault → parsed set line ≡ Err fault
-  second_bad x fault p e = fields ∙ ap (λ r. with_fields command r (field_read used 2 (column (between 16 26 line))) (field_read used 3 (column (between 26 36 line)))) p ∙ ap (λ r. with_fields command (Ok x) r (field_read used 3 (column (between 26 36 line)))) e
-
   pub two_good : (x y : ℤ) → field_read used 1 (column (between 6 16 line)) ≡ Ok x → field_read used 2 (column (between 16 26 line)) ≡ Ok y → (r : Result ℤ FormatFault) → field_read used 3 (column (between 26 36 line)) ≡ r → parsed set line ≡ with_fields command (Ok x) (Ok y) r
   two_good x y p q r e = fields ∙ ap (λ r. with_fields command r (field_read used 2 (column (between 16 26 line))) (field_read used 3 (column (between 26 36 line)))) p ∙ ap (λ r. with_fields command (Ok x) r (field_read used 3 (column (between 26 36 line)))) q ∙ ap (with_fields command (Ok x) (Ok y)) e
-
--- an unknown command by `ok_or`
-pub unknown : {C : Type 0} (o : Option C) (r : Result C FormatFault) (fault : FormatFault) → o ≡ result_ok r → r ≡ ok_or o UnknownCommand → r ≡ Err fault → (o ≡ None) × (fault ≡ UnknownCommand)
-unknown {C} o r fault back value was =
-    let none : o ≡ None = back ∙ ap result_ok was in
-    let k : ◌≡◌ {A = Result C FormatFault} (Err fault) (Err UnknownCommand) = sym was ∙ value ∙ ap (λ o. ok_or o UnknownCommand) none in
-    (none, cc)

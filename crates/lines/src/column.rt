@@ -79,6 +79,7 @@ fn text_column(text: &[u8]) -> Column
 }
 
 // What a row of ten bytes holds; a row of another length holds no number.
+#[tactic(auto, using(crate::proofs::Columns::column_laws), unfolding(crate::specs::Columns::column))]
 pub fn read_column(row: &[u8]) -> Column
     ensures value { result ≡ column row.now }
     ensures laws { ColumnLaws }

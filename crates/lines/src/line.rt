@@ -16,6 +16,7 @@ fn line_len(input: &[u8]) -> usize
 }
 
 // The index of the first newline at or after `from`, else the length of the input.
+#[tactic(auto, using(crate::proofs::Lines::line_laws), unfolding(crate::specs::Lines::line_end))]
 pub fn line_end(input: &[u8], from: usize) -> usize
     ensures value { result ≡ line_end input.now from }
     ensures within { result ≤ length input.now }

@@ -62,6 +62,7 @@ fn read_field(row: &[u8], used: usize, k: u8) -> Result<i64, FormatFault>
 }
 
 // The request of a line, or the first fault of the line.
+#[tactic(auto, unfolding(crate::specs::Requests::parsed, crate::specs::CommandSets::command_named))]
 pub fn parse_line<C: CommandSet>(line: &[u8]) -> Result<Request<C>, FormatFault>
     ensures value { result ≡ parsed C.commands line.now }
     ensures spelled { TakenAsSpelled C.commands }
