@@ -32,10 +32,11 @@ lines_first (b ∷ c ∷ cs) some = ⊎_elim
     cond-false _ _ _ no' ∙ ap (onto_first b) (lines_first (c ∷ cs) (omega arith)) ∙ ap (λ n. take n (b ∷ c ∷ cs) ∷ lines (drop (suc n) (b ∷ c ∷ cs))) (sym k))
     (cases_Bool (eqb b 10))
 
--- past the end there are no lines
-pub lines_none : (input : List ℕ) (p : ℕ) → length input ≤ p → lines (drop p input) ≡ []
+-- an empty input has no lines
+pub no_line : (input : List ℕ) → length input ≡ 0 → lines input ≡ []
 unfolding lines
-lines_none input p past = ap lines (drop_all p input past)
+no_line [] none = refl
+no_line (b ∷ bs) none = absurd (omega arith)
 
 -- the first line and what follows its newline, as slices
 pub first_line : (input : List ℕ) (e m : ℕ) → 0 < length input → e ≡ prefix_len in_line input → m ≡ min (e + 1) (length input) → (lines input ≡ take e input ∷ lines (between m (length input) input)) × (length (between m (length input) input) < length input)

@@ -28,6 +28,7 @@ pub fn line_end(input: &[u8], from: usize) -> usize
 }
 
 // The first line of an input and what follows its newline, or nothing where the input is empty.
+#[tactic(auto, using(crate::proofs::Lines::first_line, crate::proofs::Lines::no_line))]
 pub fn split_line(input: &[u8]) -> Option<(&[u8], &[u8])>
     ensures { FirstLine input.now (option_map (λ parts. (parts.0.now, parts.1.now)) result) }
 {
