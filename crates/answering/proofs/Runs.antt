@@ -1,15 +1,15 @@
 -- What is written for the lines of an input, one line at a time.
 use Rattle.std.proofs.Common.{◌≡◌, ℕ, ◌<◌, Bool, true, false, eqb, List, [], ◌∷◌, ◌++◌, length, get_or, ℤ, pos, Ok, Result, sym, refl, ap, ◌∙◌, subst, append_assoc, append-nil, arith, lit<, w64, SFits, to_z, of_z}
 use Rattle.std.proofs.lemmas.Int.{to_z-of_z}
-use Rattle.std.proofs.lemmas.Bool.{cond-true, cond-false, true≢false}
+use Rattle.std.proofs.lemmas.Bool.{cond-true, cond-false}
 use Rattle.rules.specs.Rules.{Barrier}
 use Rattle.registers.specs.State.{State}
 use Rattle.lines.specs.declared.answer.RowFault.{RowFault}
 use Rattle.lines.specs.Answers.{row_bytes}
 use Rattle.lines.specs.Lines.{lines}
-use Rattle.answering.specs.Sheets.{SheetRules, SheetState, waiting, running, Reply, declined, Order, opening, calling, state_opened, reply_opened, state_after_asked, reply_to_asked, state_after_line, reply_to_line, row_of_reply, next_line, written_for}
+use Rattle.answering.specs.Sheets.{SheetRules, SheetState, waiting, running, Reply, state_opened, reply_opened, state_after_line, reply_to_line, row_of_reply, next_line, written_for}
 use Rattle.answering.specs.declared.session.Session.{Session}
-use Rattle.answering.specs.Runs.{asks_open, Answered, written_after}
+use Rattle.answering.specs.Runs.{Answered, written_after}
 
 -- four values that were passed on one by one
 pub four_values : (v : List ℤ) → length v ≡ 4 → ((i : ℕ) → i < 4 → SFits w64 (get_or v i (pos 0))) → to_z w64 (of_z w64 (get_or v 0 (pos 0))) ∷ (to_z w64 (of_z w64 (get_or v 1 (pos 0))) ∷ (to_z w64 (of_z w64 (get_or v 2 (pos 0))) ∷ (to_z w64 (of_z w64 (get_or v 3 (pos 0))) ∷ []))) ≡ v
@@ -53,11 +53,6 @@ module _ (rules : SheetRules) where
   pub written_taken : (front out : List ℕ) (s : SheetState) (n k : ℕ) (text : List ℕ) (rest ls : List (List ℕ)) → out ≡ front → k ≡ n → ls ≡ text ∷ rest → out ++ written_for rules s k (text ∷ rest) ≡ front ++ written_for rules s n ls
   written_taken front out s n k text rest ls same counted taken =
       ap (λ l. l ++ written_for rules s k (text ∷ rest)) same ∙ ap (λ k. front ++ written_for rules s k (text ∷ rest)) counted ∙ ap (λ ls. front ++ written_for rules s n ls) (sym taken)
-
-  -- a call before an accepted open
-  pub call_waiting : (text : List ℕ) (o : Order) → asks_open o ≡ false → rules.asked text ≡ Ok o → (waiting ≡ state_after_line rules waiting text) × (declined 34 1 0 ≡ reply_to_line rules waiting text)
-  call_waiting text (opening b z) call e = absurd (true≢false call)
-  call_waiting text (calling c) call e = (ap (state_after_asked rules waiting) (sym e), ap (reply_to_asked rules waiting) (sym e))
 
   -- an open that the store refused, or accepted
   module _ (b : Barrier) (v : State) (n k : ℕ) (rest ls : List (List ℕ)) (front out : List ℕ) (row : List ℤ) (pushed : out ≡ front ++ row_bytes row) (answered : row ≡ row_of_reply n (reply_opened v)) (counted : k ≡ next_line n) (left : ls ≡ rest) where

@@ -48,13 +48,13 @@ abbrev pub reply_to_opening : SheetRules → Opening → Reply
 reply_to_opening rules o = reply_opened (rules.opened o.sizes)
 
 -- the same for a line that asks for an open or is refused
-abbrev pub state_told : SheetRules → Result Opening SheetFault → SheetState
-state_told rules (Ok o) = state_after_opening rules o
-state_told rules (Err e) = waiting
+abbrev pub state_after_asked : SheetRules → Result Opening SheetFault → SheetState
+state_after_asked rules (Ok o) = state_after_opening rules o
+state_after_asked rules (Err e) = waiting
 
-abbrev pub reply_told : SheetRules → Result Opening SheetFault → Reply
-reply_told rules (Ok o) = reply_to_opening rules o
-reply_told rules (Err e) = declined (sheet_refusal e) (sheet_layer e) (sheet_column e)
+abbrev pub reply_to_asked : SheetRules → Result Opening SheetFault → Reply
+reply_to_asked rules (Ok o) = reply_to_opening rules o
+reply_to_asked rules (Err e) = declined (sheet_refusal e) (sheet_layer e) (sheet_column e)
 
 -- what is written for line n with this reply, and then for the lines after it, which find this state
 abbrev pub written_after : SheetRules → Reply → SheetState → ℕ → List (List ℕ) → List ℕ

@@ -77,19 +77,19 @@ reply_to_order rules (running b s) (opening b' z) = declined 34 1 0
 reply_to_order rules (running b s) (calling c) = reply_of (answer b s c)
 
 -- a line: one that is not in the format changes nothing
-abbrev pub state_after_asked : SheetRules → SheetState → Result Order FormatFault → SheetState
-state_after_asked rules s (Ok o) = state_after_order rules s o
-state_after_asked rules s (Err e) = s
+abbrev pub state_after_request : SheetRules → SheetState → Result Order FormatFault → SheetState
+state_after_request rules s (Ok o) = state_after_order rules s o
+state_after_request rules s (Err e) = s
 
-abbrev pub reply_to_asked : SheetRules → SheetState → Result Order FormatFault → Reply
-reply_to_asked rules s (Ok o) = reply_to_order rules s o
-reply_to_asked rules s (Err e) = declined (format_refusal e) 1 (format_column e)
+abbrev pub reply_to_request : SheetRules → SheetState → Result Order FormatFault → Reply
+reply_to_request rules s (Ok o) = reply_to_order rules s o
+reply_to_request rules s (Err e) = declined (format_refusal e) 1 (format_column e)
 
 abbrev pub state_after_line : SheetRules → SheetState → List ℕ → SheetState
-state_after_line rules s line = state_after_asked rules s (rules.asked line)
+state_after_line rules s line = state_after_request rules s (rules.asked line)
 
 abbrev pub reply_to_line : SheetRules → SheetState → List ℕ → Reply
-reply_to_line rules s line = reply_to_asked rules s (rules.asked line)
+reply_to_line rules s line = reply_to_request rules s (rules.asked line)
 
 -- 0 and the values of a call, padded with 0 to five numbers
 abbrev pub padded : List ℤ → List ℤ

@@ -2,7 +2,7 @@
 ghost use Rattle.std.specs.Prelude.{◌≡◌, ℕ, [], ◌∷◌, ◌++◌, is_ok, if◌then◌else◌, MatchResult, ◌==◌};
 ghost use Rattle.lines.specs.Lines.{lines};
 ghost use Rattle.lines.specs.declared.answer.RowFault.TheVariants.{NoMemory};
-ghost use Rattle.answering.specs.Runs.{row_of_result, state_after_opening, reply_to_opening, state_told, reply_told, Answered, written_after};
+ghost use Rattle.answering.specs.Runs.{row_of_result, state_after_opening, reply_to_opening, state_after_asked, reply_to_asked, Answered, written_after};
 ghost use Rattle.answering.specs.Sheets.{rules_by, waiting, running, state_opened, reply_opened, state_after_line, reply_to_line, row_of_reply, next_line, written_for, sheet_output};
 
 use crate::fault::SheetFault;
@@ -46,13 +46,11 @@ fn run_open<T: Sheet, S: SheetStore<T>>(
 
 // The open that a line asks for before one is accepted.
 fn parse_opening<T: Sheet>(text: &[u8]) -> Result<Opening, SheetFault>
-    ensures state { state_told (rules_by T.Command.commands T.order T.opened) result ≡ state_after_line (rules_by T.Command.commands T.order T.opened) waiting text.now }
-    ensures reply { reply_told (rules_by T.Command.commands T.order T.opened) result ≡ reply_to_line (rules_by T.Command.commands T.order T.opened) waiting text.now }
+    ensures state { state_after_asked (rules_by T.Command.commands T.order T.opened) result ≡ state_after_line (rules_by T.Command.commands T.order T.opened) waiting text.now }
+    ensures reply { reply_to_asked (rules_by T.Command.commands T.order T.opened) result ≡ reply_to_line (rules_by T.Command.commands T.order T.opened) waiting text.now }
 {
     let request = parse_line::<T::Command>(text)?;
-    let Some(barrier) = T::opens(request.command) else {
-        return Err(SheetFault::OutOfTurn);
-    };
+    let barrier = T::opens(request.command).ok_or(SheetFault::OutOfTurn)?;
     let sizes = Sizes {
         slots: request.a,
         places: request.b,

@@ -1,6 +1,6 @@
 // What is printed of a day: a line for each call, and a line for each valve.
 use heap::tally::Tally;
-use kinds::dose::{Dose, Mark};
+use kinds::dose::Dose;
 use kinds::fault::StoreFault;
 use ring::arcs::Lengths;
 use std::io;
@@ -11,10 +11,7 @@ fn print_call(rt: &HostRuntime, call: &Call<Dose>) -> io::Result<()> {
     match call {
         Call::Make { d, template, .. } => {
             let weight = template.weight();
-            let mark = match template.mark() {
-                Mark::Dose => "dose",
-                Mark::Flush => "flush",
-            };
+            let mark = template.mark();
             print!(rt; "valve {d}, {mark} of {weight} mg")
         }
         Call::Empty { r } => print!(rt; "valve {r}, batch dropped"),

@@ -19,7 +19,7 @@ use Rattle.lines.specs.Commands.{commands}
 use Rattle.lines.specs.Lines.{lines}
 use Rattle.pair_sheet.specs.Pairs.{empty_pair, within_lent, why_pairs, new_pairs, closed_pairs}
 use Rattle.lines.specs.Requests.{parsed}
-use Rattle.answering.specs.Sheets.{running, Order, opening, calling, order_of, order_read, reply_of, state_opened, state_after_order, state_after_asked, reply_to_order, reply_to_asked, row_of_reply, next_line, written_for}
+use Rattle.answering.specs.Sheets.{running, Order, opening, calling, order_of, order_read, reply_of, state_opened, state_after_order, state_after_request, reply_to_order, reply_to_request, row_of_reply, next_line, written_for}
 use Rattle.pair_sheet.specs.Sheets.{order, rules, state_after_line}
 use Rattle.pair_sheet.specs.Promised.{Log, unopened, since, log_after_order, log_after_request, log_after_line, log_after, state_after, new_slots, state_of, book_reply_to_order, book_reply_to_request, book_reply_to_line, written_by_book, Promised, SheetPromise}
 
@@ -122,11 +122,11 @@ module _ (l : Log) (ready : Ready l) where
   ready_after_request (Ok q) = ready_after_order l (order_of order q) (asks_lawful q.command q.a q.b q.c) ready
   ready_after_request (Err e) = ready
 
-  state_by_request : (r : Result (Request Command) FormatFault) → state_after_asked rules (state_of l) (order_read order r) ≡ state_of (log_after_request l r)
+  state_by_request : (r : Result (Request Command) FormatFault) → state_after_request rules (state_of l) (order_read order r) ≡ state_of (log_after_request l r)
   state_by_request (Ok q) = state_by_order l (order_of order q)
   state_by_request (Err e) = refl
 
-  reply_by_request : (r : Result (Request Command) FormatFault) → reply_to_asked rules (state_of l) (order_read order r) ≡ book_reply_to_request l r
+  reply_by_request : (r : Result (Request Command) FormatFault) → reply_to_request rules (state_of l) (order_read order r) ≡ book_reply_to_request l r
   reply_by_request (Ok q) = reply_by_order l ready (order_of order q)
   reply_by_request (Err e) = refl
 
