@@ -55,54 +55,50 @@ def clauses():
     return hits
 
 
-def functions():
-    """Each function with its body: name, file, line, text."""
-    out = []
+def items(pattern):
+    """Each line that begins an item: the match, the file, its lines and the index of this one."""
     for name in files():
         lines = code(name)
         for i, line in enumerate(lines):
-            m = re.match(r"\s*(pub(\(crate\))?\s+)?(final\s+)?fn\s+(\w+)", line)
-            if not m:
-                continue
-            j = i
-            while j < len(lines) and lines[j].strip() != "{" and not re.search(r"\)\s*(->.*)?\{\s*$|;\s*$", lines[j]):
-                j += 1
-            if j >= len(lines) or lines[j].rstrip().endswith(";"):
-                continue
-            depth, body, k = 0, [], j
-            while k < len(lines):
-                text = lines[k][lines[k].rfind("{") :] if k == j else lines[k]
-                depth += text.count("{") - text.count("}")
-                body.append(text.strip())
-                if depth == 0:
-                    break
-                k += 1
-            out.append((m.group(4), name, i + 1, " ".join(b for b in body if b)))
+            m = re.match(pattern, line)
+            if m:
+                yield m, name, lines, i
+
+
+def functions():
+    """Each function with its body: name, file, line, text."""
+    out = []
+    for m, name, lines, i in items(r"\s*(pub(\(crate\))?\s+)?(final\s+)?fn\s+(\w+)"):
+        j = i
+        while j < len(lines) and lines[j].strip() != "{" and not re.search(r"\)\s*(->.*)?\{\s*$|;\s*$", lines[j]):
+            j += 1
+        if j >= len(lines) or lines[j].rstrip().endswith(";"):
+            continue
+        depth, body = 0, []
+        for k in range(j, len(lines)):
+            text = lines[k][lines[k].rfind("{") :] if k == j else lines[k]
+            depth += text.count("{") - text.count("}")
+            body.append(text.strip())
+            if depth == 0:
+                break
+        out.append((m.group(4), name, i + 1, " ".join(b for b in body if b)))
     return out
 
 
 def types():
+    """Each struct and enum with its fields: name, file, line, text."""
     out = []
-    for name in files():
-        lines = code(name)
-        for i, line in enumerate(lines):
-            m = re.match(r"\s*(pub(\(crate\))?\s+)?(struct|enum)\s+(\w+)", line)
-            if not m or line.rstrip().endswith(";"):
-                continue
-            body, k = [], i
-            while k < len(lines):
-                body.append(lines[k].strip())
-                if lines[k].strip() == "}" or lines[k].rstrip().endswith("}"):
-                    break
-                k += 1
-            out.append((m.group(4), name, i + 1, " ".join(b for b in body if b)))
+    for m, name, lines, i in items(r"\s*(pub(\(crate\))?\s+)?(struct|enum)\s+(\w+)"):
+        if lines[i].rstrip().endswith(";"):
+            continue
+        end = next((k for k in range(i, len(lines)) if lines[k].rstrip().endswith("}")), i)
+        out.append((m.group(4), name, i + 1, " ".join(t.strip() for t in lines[i : end + 1] if t.strip())))
     return out
 
 
 def skeleton(body):
     body = re.sub(r"b?'[^']*'|b?\"[^\"]*\"", "L", body)
     body = re.sub(r"\b\d[\d_]*\w*\b", "L", body)
-    words = {}
     keep = {"let", "mut", "if", "else", "match", "for", "in", "while", "return", "self", "Self", "Ok", "Err", "Some", "None", "true", "false", "as"}
     return re.sub(r"\b[A-Za-z_]\w*\b", lambda m: m.group(0) if m.group(0) in keep else "I", body)
 
