@@ -1,15 +1,15 @@
 -- A sheet's lines keep the main promise: the log of the lines stands beside the sheet's state.
-use Rattle.std.proofs.Common.{◌≡◌, ℕ, ◌≤◌, Bool, true, false, cond, ◌&&◌, eqb, List, [], ◌∷◌, ◌++◌, ℤ, pos, negsuc, Ok, Err, Result, sym, refl, ap, ◌∙◌, inl, inr, arith}
+use Rattle.std.proofs.Common.{◌≡◌, ℕ, Bool, true, false, cond, eqb, List, [], ◌∷◌, ◌++◌, ℤ, Ok, Err, Result, sym, refl, ap, ◌∙◌, inl, inr, arith}
 use Rattle.std.proofs.lemmas.List.{length-replicate}
 use Rattle.std.proofs.lemmas.Bool.{cond-false, true≢false}
-use Rattle.std.proofs.lemmas.Bool.Decides.{nat_tests}
 use Rattle.rules.specs.Rules.{Barrier, Lawful, Sizes, Call}
 use Rattle.rules.specs.History.{History, history_call, history_run, new_history}
 use Rattle.rules.specs.Promise.{InRange}
 use Rattle.rules.proofs.Statements.{nothing_in_use_is_taken_back}
 use Rattle.registers.specs.declared.sizes.Sizes.{Sizes as Asked}
-use Rattle.registers.specs.Opening.{from_one_to, natural, sizes_in_range}
+use Rattle.registers.specs.Opening.{sizes_in_range}
 use Rattle.registers.specs.State.{sizes_of}
+use Rattle.store.proofs.Opened.{sizes_tell}
 use Rattle.lines.specs.declared.command.Command.{Command}
 use Rattle.lines.specs.declared.command.Command.TheVariants.{OpenSnapshot, OpenUpdate, Load, Empty, Copy, Make, Read, Write, Same, Look, Step, Full, Tell}
 use Rattle.lines.specs.declared.request.FormatFault.{FormatFault}
@@ -48,29 +48,6 @@ asks_lawful Step x y z = tt
 asks_lawful Full x y z = tt
 asks_lawful Tell x y z = tt
 
--- a size that is accepted is in its range
-in_bounds : (n : ℕ) (v : ℤ) → from_one_to n v ≡ true → (1 ≤ natural v) × (natural v ≤ n)
-in_bounds n (pos v) h = (grind (arith, nat_tests), grind (arith, nat_tests))
-in_bounds n (negsuc v) h = absurd (true≢false (sym h))
-
-both_true : (s t : Bool) → (s && t) ≡ true → (s ≡ true) × (t ≡ true)
-both_true true true h = (refl, refl)
-both_true true false h = absurd (true≢false (sym h))
-both_true false t h = absurd (true≢false (sym h))
-
-sizes_ready : (z : Asked) → sizes_in_range z ≡ true → InRange (sizes_of 2 z)
-sizes_ready z h =
-    let (s, h₁) = both_true (from_one_to 16384 z.slots) (from_one_to 1024 z.places && (from_one_to 64 z.registers && from_one_to 16384 z.scans)) h in
-    let (y, h₂) = both_true (from_one_to 1024 z.places) (from_one_to 64 z.registers && from_one_to 16384 z.scans) h₁ in
-    let (r, k) = both_true (from_one_to 64 z.registers) (from_one_to 16384 z.scans) h₂ in
-    record {
-      slots = in_bounds 16384 z.slots s;
-      places = in_bounds 1024 z.places y;
-      registers = in_bounds 64 z.registers r;
-      scans = in_bounds 16384 z.scans k;
-      links = omega arith;
-    }
-
 accepted_in_range : (z : Asked) → eqb (why_pairs z) 0 ≡ true → sizes_in_range z ≡ true
 accepted_in_range z h = go (sizes_in_range z) refl
   where
@@ -88,7 +65,7 @@ ready_after_order : (l : Log) (o : Order) → AsksLawful o → Ready l → Ready
 ready_after_order unopened (opening b z) lawful ready = go (eqb (why_pairs z) 0) refl
   where
     go : (t : Bool) → eqb (why_pairs z) 0 ≡ t → Ready (cond t (since b (sizes_of 2 z) []) unopened)
-    go true h = (lawful, sizes_ready z (accepted_in_range z h))
+    go true h = (lawful, sizes_tell 2 z (omega arith) (accepted_in_range z h))
     go false h = tt
 ready_after_order unopened (calling c) lawful ready = tt
 ready_after_order (since b z calls) (opening b' z') lawful ready = ready
