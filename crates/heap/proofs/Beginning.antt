@@ -1,9 +1,10 @@
 -- A new store: tables that are long enough, and the ring that begins in them.
-use Rattle.std.proofs.Common.{◌≡◌, ℕ, zero, suc, ◌+◌, ◌≤◌, true, leb, List, length, sym, refl, ap, arith}
+use Rattle.std.proofs.Common.{◌≡◌, ℕ, ◌+◌, ◌≤◌, true, leb, List, length, sym, ap, arith}
 use Rattle.std.proofs.lemmas.Bool.{and_parts}
 use Rattle.std.proofs.lemmas.Bool.Decides.{nat_tests}
-use Rattle.ring.specs.Arcs.{Arcs, upto, new_arcs}
+use Rattle.ring.specs.Arcs.{Arcs, new_arcs}
 use Rattle.ring.specs.View.{Kept as Left}
+use Rattle.ring.proofs.Fresh.{length_upto}
 use Rattle.heap.specs.declared.heap.tables.Tables.{Tables}
 use Rattle.heap.specs.Opening.{tables_long}
 use Rattle.heap.specs.View.{Rest}
@@ -38,10 +39,6 @@ pub left_rest : (n : ℕ) (was is : List ℕ) → Left n was is → Rest n was i
 left_rest n was is h = record { rest = h.rest; size = h.long }
 
 -- a new ring has n free slots
-length_upto : (i n : ℕ) → length (upto i n) ≡ n
-length_upto i zero = refl
-length_upto i (suc n) = omega (arith, length_upto (suc i) n)
-
 pub all_free : (n : ℕ) (a : Arcs) → a ≡ new_arcs n → 0 + length a.free ≡ n
 all_free n a e = omega (arith, ap (λ x. length x.free) e, length_upto 0 n)
 

@@ -6,27 +6,20 @@ use Rattle.std.proofs.lemmas.Bool.{cases_lt, eq-eqb, ne_eqb}
 use Rattle.ring.specs.Arcs.{Arcs, ring_of, Linked}
 use Rattle.ring.specs.Calls.{first_or, next_in, next_around}
 use Rattle.ring.specs.Sound.{Tables, hit, count, Chained, Ringed, Starts, arcs, Holds}
-use Rattle.ring.proofs.Chain.{hit_same, count_append, count_cons, split_at, rotate, starts_next}
+use Rattle.ring.proofs.Chain.{hit_same, count_append, count_at, split_at, rotate, starts_next}
 use Rattle.ring.proofs.Held.{Sound, held}
 use Rattle.ring.proofs.Steps.{once, inside, there}
 
 -- ---- lists
 
-getD_in : (xs : List ℕ) (i : ℕ) → i < length xs → 0 < count (get_or xs i 0) xs
-unfolding count
-getD_in [] i l = absurd (omega arith)
-getD_in (x ∷ xs) zero l = omega (arith, hit_same x)
-getD_in (x ∷ xs) (suc i) l = let r = getD_in xs i (omega arith) in omega arith
-
 -- In a list without repetition equal numbers stand at equal places.
-same_place : (xs : List ℕ) (i j : ℕ) → ((x : ℕ) → count x xs ≤ 1) → i < length xs → j < length xs → get_or xs i 0 ≡ get_or xs j 0 → i ≡ j
-unfolding count
+pub same_place : (xs : List ℕ) (i j : ℕ) → ((x : ℕ) → count x xs ≤ 1) → i < length xs → j < length xs → get_or xs i 0 ≡ get_or xs j 0 → i ≡ j
 same_place [] i j one li lj e = absurd (omega arith)
 same_place (x ∷ xs) zero zero one li lj e = refl
 same_place (x ∷ xs) zero (suc j) one li lj e =
-    absurd (omega (arith, one x, hit_same x, subst (λ z. 0 < count z xs) (sym e) (getD_in xs j (omega arith))))
+    absurd (omega (arith, one x, hit_same x, subst (λ z. 0 < count z xs) (sym e) (count_at xs j (omega arith))))
 same_place (x ∷ xs) (suc i) zero one li lj e =
-    absurd (omega (arith, one x, hit_same x, subst (λ z. 0 < count z xs) e (getD_in xs i (omega arith))))
+    absurd (omega (arith, one x, hit_same x, subst (λ z. 0 < count z xs) e (count_at xs i (omega arith))))
 same_place (x ∷ xs) (suc i) (suc j) one li lj e =
     ap suc (same_place xs i j (λ y. omega (arith, one y)) (omega arith) (omega arith) e)
 
@@ -72,7 +65,7 @@ module _ (t : Tables) (a : Arcs) (h : Holds t a) where
   linked_arcs =
       record {
         size = h.sized;
-        within = λ i l. inside t a h (get_or (ring_of a) i 0) (getD_in (ring_of a) i (omega (arith, h.sized)));
+        within = λ i l. inside t a h (get_or (ring_of a) i 0) (count_at (ring_of a) i (omega (arith, h.sized)));
         once = λ i j li lj e. same_place (ring_of a) i j (once t a h) (omega (arith, h.sized)) (omega (arith, h.sized)) e;
         forward = λ i l. subst (λ k. get_or t.next (get_or (ring_of a) i 0) 0 ≡ get_or (ring_of a) ((i + 1) % k) 0) h.sized (ringed_at (λ x. get_or t.next x 0) (λ x. get_or t.prev x 0) (ring_of a) i h.ringed (omega (arith, h.sized)));
         back = λ q l. let c = turned q l in undone (λ x. get_or t.next x 0) (λ x. get_or t.prev x 0) q (c.1 ++ c.0) c.3;
@@ -95,14 +88,12 @@ starts_or x d (y ∷ xs) ys h k = h
 
 -- Where q stands once, the slot after it is the first of what follows, or the default.
 pub next_in_at : (d q : ℕ) (l r : List ℕ) → count q l ≡ 0 → next_in d q (l ++ q ∷ r) ≡ Some (first_or d r)
-unfolding count
 next_in_at d q [] r z = rw (eq-eqb q q refl)
 next_in_at d q (x ∷ l) r z =
     let ne : x ≡ q → ⊥ = λ e. omega (arith, hit_same q, ap (λ v. hit q v) e) in
     rw (ne_eqb x q ne) (next_in_at d q l r (omega arith))
 
 pub next_in_none : (d q : ℕ) (xs : List ℕ) → count q xs ≡ 0 → next_in d q xs ≡ None
-unfolding count
 next_in_none d q [] z = refl
 next_in_none d q (x ∷ xs) z =
     let ne : x ≡ q → ⊥ = λ e. omega (arith, hit_same q, ap (λ v. hit q v) e) in
@@ -116,7 +107,7 @@ module _ (t : Tables) (s : Sound t) (q : ℕ) where
       let c = turned t a h q l in
       let nx = get_or t.next q 0 in
       let d = first_or 0 (ring_of a) in
-      let alone : count q c.0 ≡ 0 = omega (arith, once t a h q, ap (count q) c.2, count_append q c.0 (q ∷ c.1), count_cons q q c.1, hit_same q) in
+      let alone : count q c.0 ≡ 0 = omega (arith, once t a h q, ap (count q) c.2, count_append q c.0 (q ∷ c.1), hit_same q) in
       let st : Starts nx ((c.1 ++ c.0) ++ q ∷ []) = starts_next (λ x. get_or t.next x 0) (λ x. get_or t.prev x 0) q (c.1 ++ c.0) c.3 in
       let st' : Starts nx (c.1 ++ (c.0 ++ q ∷ [])) = rw (append_assoc c.1 c.0 (q ∷ [])) at st in
       let is : nx ≡ first_or d c.1 = starts_or nx d c.1 (c.0 ++ q ∷ []) st' (λ z. wrapped nx c.0 c.1 st' z c.2) in

@@ -4,7 +4,7 @@ use Rattle.std.proofs.lemmas.List.{length-append, get_or-set_same, get_or-set_ot
 use Rattle.std.proofs.lemmas.Bool.{cases_eq}
 use Rattle.ring.specs.Arcs.{ring_of}
 use Rattle.ring.specs.Sound.{Tables, count, Ringed, arcs}
-use Rattle.ring.proofs.Chain.{count_append, count_cons, count_nil, split_at, rotate, starts_next, lastOf_in, chained_ends}
+use Rattle.ring.proofs.Chain.{count_append, split_at, rotate, starts_next, lastOf_in, chained_ends}
 use Rattle.ring.proofs.Held.{Sound, held}
 use Rattle.ring.proofs.Carry.{starts_in}
 use Rattle.ring.proofs.Steps.{inside, there, tally}
@@ -12,7 +12,7 @@ use Rattle.ring.proofs.Steps.{inside, there, tally}
 -- The links of a ring stay in it.
 pub ring_next_in : (n p : ℕ → ℕ) (x : ℕ) (xs : List ℕ) → Ringed n p (x ∷ xs) → 0 < count (n x) (x ∷ xs)
 ring_next_in n p x xs r =
-    omega (arith, starts_in (n x) (xs ++ x ∷ []) (omega (arith, length-append xs (x ∷ []))) (starts_next n p x xs r), count_append (n x) xs (x ∷ []), count_cons (n x) x [], count_nil (n x), count_cons (n x) x xs)
+    omega (arith, starts_in (n x) (xs ++ x ∷ []) (omega (arith, length-append xs (x ∷ []))) (starts_next n p x xs r), count_append (n x) xs (x ∷ []))
 
 pub ring_prev_in : (n p : ℕ → ℕ) (x : ℕ) (xs : List ℕ) → Ringed n p (x ∷ xs) → 0 < count (p x) (x ∷ xs)
 unfolding Ringed
@@ -60,7 +60,7 @@ module _ (t : Tables) (s : Sound t) where
       let pv : ℕ → ℕ = λ k. get_or t.prev k 0 in
       let c = split_at x (ring_of a) (omega (arith, there t a h x l)) in
       let r = rotate nx pv c.0 (x ∷ c.1) (subst (Ringed nx pv) c.2 h.ringed) in
-      let back : (k : ℕ) → count k (x ∷ (c.1 ++ c.0)) ≡ count k (ring_of a) = λ k. omega (arith, ap (count k) c.2, count_append k c.0 (x ∷ c.1), count_cons k x c.1, count_cons k x (c.1 ++ c.0), count_append k c.1 c.0) in (
+      let back : (k : ℕ) → count k (x ∷ (c.1 ++ c.0)) ≡ count k (ring_of a) = λ k. omega (arith, ap (count k) c.2, count_append k c.0 (x ∷ c.1), count_append k c.1 c.0) in (
         inside t a h (nx x) (omega (arith, ring_next_in nx pv x (c.1 ++ c.0) r, back (nx x))),
         inside t a h (pv x) (omega (arith, ring_prev_in nx pv x (c.1 ++ c.0) r, back (pv x))),
       )

@@ -2,7 +2,7 @@
 use Rattle.std.proofs.Common.{◌≡◌, ℕ, ◌<◌, ◌≤◌, List, [], ◌∷◌, ◌++◌, length, get_or, set, sym, refl, ap, ◌∙◌, subst, append_assoc, arith}
 use Rattle.std.proofs.lemmas.List.{length-append, length-set, get_or-set_same, get_or-set_other}
 use Rattle.ring.specs.Sound.{hit, count, Chained, Ringed, Starts}
-use Rattle.ring.proofs.Chain.{hit_same, count_append, count_cons, last_of, lastOf_in, lastOf_append, chained_ends, rotate, unlink, insert}
+use Rattle.ring.proofs.Chain.{hit_same, count_append, last_of, lastOf_in, lastOf_append, chained_ends, rotate, unlink, insert}
 
 -- The last number of a list.
 unfoldable pub lastD : List ℕ → ℕ
@@ -25,7 +25,7 @@ lastD_in [] h = absurd (omega arith)
 lastD_in (x ∷ xs) h = lastOf_in x xs
 
 pub starts_in : (x : ℕ) (xs : List ℕ) → 0 < length xs → Starts x xs → 0 < count x xs
-unfolding Starts count
+unfolding Starts
 starts_in x [] h l = absurd (omega arith)
 starts_in x (y ∷ ys) h l = omega (arith, hit_same x, ap (hit x) l)
 
@@ -95,12 +95,12 @@ carry_ring_of nx pv q bs ds some r once in-n in_p =
     let n_in : 0 < count n (bs ++ ds) = starts_in n (bs ++ ds) long ln in
     let p_in : 0 < count p (bs ++ ds) = subst (λ k. 0 < count k (bs ++ ds)) (sym lp) (lastD_in (bs ++ ds) long) in
     let z_in : 0 < count z bs = lastD_in bs some in
-    let q_none : count q (bs ++ ds) ≡ 0 = omega (arith, once q, count_cons q q (bs ++ ds), hit_same q) in
-    let p_nx : p < length nx = in-n p (omega (arith, count_cons p q (bs ++ ds))) in
-    let n_pv : n < length pv = in_p n (omega (arith, count_cons n q (bs ++ ds))) in
-    let q_nx : q < length nx = in-n q (omega (arith, count_cons q q (bs ++ ds), hit_same q)) in
-    let q_pv : q < length pv = in_p q (omega (arith, count_cons q q (bs ++ ds), hit_same q)) in
-    let z_nx : z < length nx = in-n z (omega (arith, count_cons z q (bs ++ ds), count_append z bs ds)) in
+    let q_none : count q (bs ++ ds) ≡ 0 = omega (arith, once q, hit_same q) in
+    let p_nx : p < length nx = in-n p (omega arith) in
+    let n_pv : n < length pv = in_p n (omega arith) in
+    let q_nx : q < length nx = in-n q (omega (arith, hit_same q)) in
+    let q_pv : q < length pv = in_p q (omega (arith, hit_same q)) in
+    let z_nx : z < length nx = in-n z (omega (arith, count_append z bs ds)) in
     let r1 : Ringed (λ x. get_or (nx1 nx pv q z) x 0) (λ x. get_or (pv1 nx pv q z) x 0) (bs ++ ds) =
     unlink_any (λ x. get_or nx x 0) (λ x. get_or pv x 0) (λ x. get_or (nx1 nx pv q z) x 0) (λ x. get_or (pv1 nx pv q z) x 0) q n p (bs ++ ds) long ln lp r once
     (get_or-set_same nx p n 0 p_nx) (get_or-set_same pv n p 0 n_pv)
@@ -112,9 +112,9 @@ carry_ring_of nx pv q bs ds some r once in-n in_p =
     let y_in : 0 < count y (ds ++ bs) = starts_in y (ds ++ bs) long' ly in
     let zq : z ≡ q → ⊥ = λ e. omega (arith, ap (λ k. count k bs) e, q_none, count_append q bs ds) in
     let qy : q ≡ y → ⊥ = λ e. omega (arith, ap (λ k. count k (ds ++ bs)) e, q_none, count_append q bs ds, count_append q ds bs) in
-    let y_pv : y < length pv = in_p y (omega (arith, count_cons y q (bs ++ ds), count_append y bs ds, count_append y ds bs)) in
+    let y_pv : y < length pv = in_p y (omega (arith, count_append y bs ds, count_append y ds bs)) in
     insert_any (λ x. get_or (nx1 nx pv q z) x 0) (λ x. get_or (pv1 nx pv q z) x 0) (λ x. get_or (nx2 nx pv q z) x 0) (λ x. get_or (pv2 nx pv q z) x 0) q y z (ds ++ bs) long' ly lz r2
-    (λ k. omega (arith, once k, count_cons k q (bs ++ ds), count_cons k q (ds ++ bs), count_append k bs ds, count_append k ds bs))
+    (λ k. omega (arith, once k, count_append k bs ds, count_append k ds bs))
     (get_or-set_other (set (nx1 nx pv q z) z q) q z y 0 zq ∙ get_or-set_same (nx1 nx pv q z) z q 0 (simp length-set z_nx))
     (get_or-set_other (set (pv1 nx pv q z) q z) y q q 0 qy ∙ get_or-set_same (pv1 nx pv q z) q z 0 (simp length-set q_pv))
     (get_or-set_same (set (nx1 nx pv q z) z q) q y 0 (simp length-set q_nx))
@@ -125,7 +125,7 @@ carry_ring_of nx pv q bs ds some r once in-n in_p =
 -- In the ring  A q B G  the slot q goes behind B: A B q G.
 pub carry : (nx pv : List ℕ) (fs : List ℕ) (q : ℕ) (bs gs : List ℕ) → 0 < length bs → Ringed (λ x. get_or nx x 0) (λ x. get_or pv x 0) (fs ++ (q ∷ (bs ++ gs))) → ((k : ℕ) → count k (fs ++ (q ∷ (bs ++ gs))) ≤ 1) → ((k : ℕ) → 0 < count k (fs ++ (q ∷ (bs ++ gs))) → k < length nx) → ((k : ℕ) → 0 < count k (fs ++ (q ∷ (bs ++ gs))) → k < length pv) → Ringed (λ x. get_or (nx2 nx pv q (lastD bs)) x 0) (λ x. get_or (pv2 nx pv q (lastD bs)) x 0) (fs ++ (bs ++ (q ∷ gs)))
 carry nx pv fs q bs gs some r once in-n in_p =
-    let tally : (k : ℕ) → count k (q ∷ (bs ++ (gs ++ fs))) ≡ count k (fs ++ (q ∷ (bs ++ gs))) = λ k. omega (arith, count_append k fs (q ∷ (bs ++ gs)), count_cons k q (bs ++ gs), count_append k bs gs, count_cons k q (bs ++ (gs ++ fs)), count_append k bs (gs ++ fs), count_append k gs fs) in
+    let tally : (k : ℕ) → count k (q ∷ (bs ++ (gs ++ fs))) ≡ count k (fs ++ (q ∷ (bs ++ gs))) = λ k. omega (arith, count_append k fs (q ∷ (bs ++ gs)), count_append k bs gs, count_append k bs (gs ++ fs), count_append k gs fs) in
     let r0 : Ringed (λ x. get_or nx x 0) (λ x. get_or pv x 0) (q ∷ (bs ++ (gs ++ fs))) =
     rw (append_assoc bs gs fs) at (rotate (λ x. get_or nx x 0) (λ x. get_or pv x 0) fs (q ∷ (bs ++ gs)) r) in
     let r1 = carry_ring_of nx pv q bs (gs ++ fs) some r0 (λ k. omega (arith, once k, tally k)) (λ k i. in-n k (omega (arith, tally k))) (λ k i. in_p k (omega (arith, tally k))) in

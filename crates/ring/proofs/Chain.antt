@@ -1,5 +1,5 @@
 -- Lists whose neighbours are linked, and how often a number stands in a list.
-use Rattle.std.proofs.Common.{◌≡◌, ℕ, suc, ◌+◌, ◌<◌, ◌≤◌, true, false, eqb, List, [], ◌∷◌, ◌++◌, length, get_or, sym, refl, ap, ◌∙◌, subst, ⊎_elim, append_assoc, arith}
+use Rattle.std.proofs.Common.{◌≡◌, ℕ, zero, suc, ◌+◌, ◌<◌, ◌≤◌, Bool, true, false, cond, eqb, List, [], ◌∷◌, ◌++◌, length, get_or, sym, refl, ap, ◌∙◌, subst, ⊎_elim, append_assoc, arith}
 use Rattle.std.proofs.lemmas.List.{append-nil}
 use Rattle.std.proofs.lemmas.Bool.{cases_eq, cases_lt, eq-eqb, ne_eqb, or_left, or_right, or_from, both_ways}
 use Rattle.ring.specs.Arcs.{has, without, split_last}
@@ -7,29 +7,27 @@ use Rattle.ring.specs.Sound.{hit, count, walk, Chained, Ringed, Starts}
 
 -- ---- counts
 
+pub one_most : (b : Bool) → cond b 1 0 ≤ 1
+one_most true = omega arith
+one_most false = omega arith
+
 pub hit_same : (x : ℕ) → hit x x ≡ 1
-unfolding hit
 hit_same x = rw (eq-eqb x x refl)
 
 pub hit_other : (x y : ℕ) → (x ≡ y → ⊥) → hit x y ≡ 0
-unfolding hit
 hit_other x y h = rw (ne_eqb x y h)
 
-pub count_cons : (x y : ℕ) (ys : List ℕ) → count x (y ∷ ys) ≡ hit x y + count x ys
-unfolding count
-count_cons x y ys = refl
-
-pub count_nil : (x : ℕ) → count x [] ≡ 0
-unfolding count
-count_nil x = refl
-
 pub count_append : (x : ℕ) (xs ys : List ℕ) → count x (xs ++ ys) ≡ count x xs + count x ys
-unfolding count
 count_append x [] ys = omega arith
 count_append x (y ∷ xs) ys = let ih = count_append x xs ys in omega arith
 
+-- What stands in a list is counted in it.
+pub count_at : (xs : List ℕ) (i : ℕ) → i < length xs → 0 < count (get_or xs i 0) xs
+count_at [] i l = absurd (omega arith)
+count_at (x ∷ xs) zero l = omega (arith, hit_same x)
+count_at (x ∷ xs) (suc i) l = let r = count_at xs i (omega arith) in omega arith
+
 pub split_at : (q : ℕ) (xs : List ℕ) → 0 < count q xs → (l : List ℕ) × (r : List ℕ) × (xs ≡ l ++ q ∷ r)
-unfolding count
 split_at q [] h = absurd (omega arith)
 split_at q (x ∷ xs) h =
     ⊎_elim
@@ -46,7 +44,7 @@ last_of a [] = a
 last_of a (y ∷ ys) = last_of y ys
 
 pub lastOf_in : (a : ℕ) (ys : List ℕ) → 0 < count (last_of a ys) (a ∷ ys)
-unfolding last_of count
+unfolding last_of
 lastOf_in a [] = omega (arith, hit_same a)
 lastOf_in a (y ∷ ys) = let ih = lastOf_in y ys in omega arith
 
@@ -89,7 +87,7 @@ module _ (n p : ℕ → ℕ) where
 -- The links of a chain but the last one stand, and its last slot leads to another.
 module _ (n p n' p' : ℕ → ℕ) where
   pub retarget : (a : ℕ) (ys : List ℕ) (old new : ℕ) → Chained n p a (ys ++ old ∷ []) → ((x : ℕ) → count x (a ∷ ys) ≤ 1) → n' (last_of a ys) ≡ new → p' new ≡ last_of a ys → ((x : ℕ) → 0 < count x (a ∷ ys) → (x ≡ last_of a ys → ⊥) → n' x ≡ n x) → ((x : ℕ) → 0 < count x ys → p' x ≡ p x) → Chained n' p' a (ys ++ new ∷ [])
-  unfolding Chained last_of count
+  unfolding Chained last_of
   retarget a [] old new h once n-new p-new n-same p-same = (n-new, p-new, tt)
   retarget a (y ∷ ys) old new h once n-new p-new n-same p-same = (
     n-same a (omega (arith, hit_same a))
@@ -103,13 +101,13 @@ module _ (n p n' p' : ℕ → ℕ) where
   )
 
   pub unlink : (q x : ℕ) (xs : List ℕ) → Ringed n p (q ∷ x ∷ xs) → ((k : ℕ) → count k (q ∷ x ∷ xs) ≤ 1) → n' (last_of x xs) ≡ x → p' x ≡ last_of x xs → ((k : ℕ) → (k ≡ last_of x xs → ⊥) → n' k ≡ n k) → ((k : ℕ) → (k ≡ x → ⊥) → p' k ≡ p k) → Ringed n' p' (x ∷ xs)
-  unfolding Ringed Chained count
+  unfolding Ringed Chained
   unlink q x xs h once n-new p-new n-same p-same =
       retarget x xs q x h.2 (λ k. omega (arith, once k)) n-new p-new (λ k i ne. n-same k ne)
       (λ k i. p-same k (λ e. let j : 0 < count x xs = subst (λ z. 0 < count z xs) e i in omega (arith, once x, hit_same x)))
 
   pub insert : (q y : ℕ) (ys : List ℕ) → Ringed n p (y ∷ ys) → ((k : ℕ) → count k (q ∷ y ∷ ys) ≤ 1) → n' (last_of y ys) ≡ q → p' q ≡ last_of y ys → n' q ≡ y → p' y ≡ q → ((k : ℕ) → (k ≡ last_of y ys → ⊥) → (k ≡ q → ⊥) → n' k ≡ n k) → ((k : ℕ) → (k ≡ q → ⊥) → (k ≡ y → ⊥) → p' k ≡ p k) → Ringed n' p' (q ∷ y ∷ ys)
-  unfolding Ringed Chained count
+  unfolding Ringed Chained
   insert q y ys h once n-last p-q n-q p-y n-same p-same = (
     n-q,
     p-y,
@@ -135,27 +133,24 @@ walk_ringed n p h (x ∷ xs) r l = rw l (walk_linked n p x xs x r)
 
 -- ---- whether a number stands in a list, and the list without it
 
-pub has_some : (q : ℕ) (xs : List ℕ) → 0 < count q xs → has q xs ≡ true
-unfolding count
-has_some q [] h = absurd (omega arith)
-has_some q (x ∷ xs) h =
+pub count_has : (q : ℕ) (xs : List ℕ) → 0 < count q xs → has q xs ≡ true
+count_has q [] h = absurd (omega arith)
+count_has q (x ∷ xs) h =
     ⊎_elim
     (λ e. or_left (eqb x q) (has q xs) (eq-eqb x q e))
-    (λ ne. or_right (eqb x q) (has q xs) (has_some q xs (omega (arith, hit_other q x (λ e. ne (sym e))))))
+    (λ ne. or_right (eqb x q) (has q xs) (count_has q xs (omega (arith, hit_other q x (λ e. ne (sym e))))))
     (cases_eq x q)
 
-pub has_none : (q : ℕ) (xs : List ℕ) → count q xs ≡ 0 → has q xs ≡ false
-unfolding count
-has_none q [] h = refl
-has_none q (x ∷ xs) h =
+pub count_hasnt : (q : ℕ) (xs : List ℕ) → count q xs ≡ 0 → has q xs ≡ false
+count_hasnt q [] h = refl
+count_hasnt q (x ∷ xs) h =
     let ne : x ≡ q → ⊥ = λ e. omega (arith, hit_same q, ap (λ z. hit q z) e) in
-    or_from (eqb x q) (has q xs) (ne_eqb x q ne) (has_none q xs (omega arith))
+    or_from (eqb x q) (has q xs) (ne_eqb x q ne) (count_hasnt q xs (omega arith))
 
-pub count_has : (q : ℕ) (xs : List ℕ) → has q xs ≡ true → 0 < count q xs
-count_has q xs h = ⊎_elim (λ l. l) (λ l. absurd (both_ways (has q xs) (has_none q xs (omega arith)) h)) (cases_lt 0 (count q xs))
+pub has_count : (q : ℕ) (xs : List ℕ) → has q xs ≡ true → 0 < count q xs
+has_count q xs h = ⊎_elim (λ l. l) (λ l. absurd (both_ways (has q xs) (count_hasnt q xs (omega arith)) h)) (cases_lt 0 (count q xs))
 
 pub without_at : (q : ℕ) (l r : List ℕ) → count q l ≡ 0 → without q (l ++ q ∷ r) ≡ l ++ r
-unfolding count
 without_at q [] r h = rw (eq-eqb q q refl)
 without_at q (x ∷ l) r h =
     let ne : x ≡ q → ⊥ = λ e. omega (arith, hit_same q, ap (λ z. hit q z) e) in

@@ -1,5 +1,5 @@
 -- In which arc a slot stands, by its colour.
-use Rattle.std.proofs.Common.{◌≡◌, ℕ, ◌<◌, ◌≤◌, Bool, true, false, cond, eqb, List, get_or, Some, None, sym, refl, ap, subst, ⊎_elim, arith}
+use Rattle.std.proofs.Common.{◌≡◌, ℕ, ◌<◌, ◌≤◌, Bool, true, false, cond, eqb, get_or, Some, None, sym, refl, ap, subst, ⊎_elim, arith}
 use Rattle.std.proofs.lemmas.Bool.{cases_lt, eq-eqb, ne_eqb}
 use Rattle.ring.specs.declared.arcs.Colour.{Colour}
 use Rattle.ring.specs.declared.arcs.Colour.TheVariants.{Free, White, Grey, Black}
@@ -7,7 +7,7 @@ use Rattle.ring.specs.Arcs.{Arcs, has, ring_of}
 use Rattle.ring.specs.Calls.{colour_in}
 use Rattle.ring.specs.Laws.{Stands, OneArc}
 use Rattle.ring.specs.Sound.{Tables, stamp_colour, code, stamp_code, code_at, count, Coloured, arcs, Holds}
-use Rattle.ring.proofs.Chain.{has_some, has_none}
+use Rattle.ring.proofs.Chain.{count_has, count_hasnt}
 use Rattle.ring.proofs.Held.{Sound, held}
 use Rattle.ring.proofs.Steps.{inside, there, tally}
 
@@ -66,24 +66,18 @@ standing : (q : ℕ) (a : Arcs) (f w g b : Bool) → has q a.free ≡ f → has 
 standing q a f w g b ef ew eg eb = record { in_free = ef; in_white = ew; in_grey = eg; in_black = eb }
 
 module _ (t : Tables) (a : Arcs) (h : Holds t a) (q : ℕ) where
-  some : (xs : List ℕ) → 0 < count q xs → has q xs ≡ true
-  some xs i = has_some q xs i
-
-  none : (xs : List ℕ) → count q xs ≡ 0 → has q xs ≡ false
-  none xs z = has_none q xs z
-
   slot_placed : q < t.slots → Placed q a (stamp_colour t.cycle t.epoch (get_or t.stamp q 0))
   unfolding Coloured code_at stamp_code
   slot_placed l =
       let c = stamp_colour t.cycle t.epoch (get_or t.stamp q 0) in
       let one = there t a h q l in
       let sum = tally t a h q in
-      ⊎_elim (λ i. subst (Placed q a) (sym (from_code_0 c (h.frees q i))) (standing q a true false false false (some a.free i) (none a.white (omega arith)) (none a.grey (omega arith)) (none a.black (omega arith))))
-      (λ z₀. ⊎_elim (λ i. subst (Placed q a) (sym (from_code_1 c (h.whites q i))) (standing q a false true false false (none a.free (omega arith)) (some a.white i) (none a.grey (omega arith)) (none a.black (omega arith))))
-      (λ z₁. ⊎_elim (λ i. subst (Placed q a) (sym (from_code_2 c (h.greys q i))) (standing q a false false true false (none a.free (omega arith)) (none a.white (omega arith)) (some a.grey i) (none a.black (omega arith))))
+      ⊎_elim (λ i. subst (Placed q a) (sym (from_code_0 c (h.frees q i))) (standing q a true false false false (count_has q a.free i) (count_hasnt q a.white (omega arith)) (count_hasnt q a.grey (omega arith)) (count_hasnt q a.black (omega arith))))
+      (λ z₀. ⊎_elim (λ i. subst (Placed q a) (sym (from_code_1 c (h.whites q i))) (standing q a false true false false (count_hasnt q a.free (omega arith)) (count_has q a.white i) (count_hasnt q a.grey (omega arith)) (count_hasnt q a.black (omega arith))))
+      (λ z₁. ⊎_elim (λ i. subst (Placed q a) (sym (from_code_2 c (h.greys q i))) (standing q a false false true false (count_hasnt q a.free (omega arith)) (count_hasnt q a.white (omega arith)) (count_has q a.grey i) (count_hasnt q a.black (omega arith))))
       (λ z₂.
       let i : 0 < count q a.black = omega arith in
-      subst (Placed q a) (sym (from_code_3 c (h.blacks q i))) (standing q a false false false true (none a.free (omega arith)) (none a.white (omega arith)) (none a.grey (omega arith)) (some a.black i)))
+      subst (Placed q a) (sym (from_code_3 c (h.blacks q i))) (standing q a false false false true (count_hasnt q a.free (omega arith)) (count_hasnt q a.white (omega arith)) (count_hasnt q a.grey (omega arith)) (count_has q a.black i)))
       (cases_lt 0 (count q a.grey)))
       (cases_lt 0 (count q a.white)))
       (cases_lt 0 (count q a.free))
@@ -92,7 +86,7 @@ module _ (t : Tables) (a : Arcs) (h : Holds t a) (q : ℕ) where
   nowhere l =
       let z : count q (ring_of a) ≡ 0 = ⊎_elim (λ i. absurd (omega (arith, inside t a h q i))) (λ i. omega arith) (cases_lt 0 (count q (ring_of a))) in
       let sum = tally t a h q in
-      standing q a false false false false (none a.free (omega arith)) (none a.white (omega arith)) (none a.grey (omega arith)) (none a.black (omega arith))
+      standing q a false false false false (count_hasnt q a.free (omega arith)) (count_hasnt q a.white (omega arith)) (count_hasnt q a.grey (omega arith)) (count_hasnt q a.black (omega arith))
 
 -- ---- the colour that the arcs say
 

@@ -12,17 +12,14 @@ length_upto a zero = refl
 length_upto a (suc n) = ap suc (length_upto (suc a) n)
 
 count_low : (x a n : ℕ) → x < a → count x (upto a n) ≡ 0
-unfolding count
 count_low x a zero l = refl
 count_low x a (suc n) l = let ih = count_low x (suc a) n (omega arith) in omega (arith, hit_other x a (λ e. omega arith))
 
 count_high : (x a n : ℕ) → a + n ≤ x → count x (upto a n) ≡ 0
-unfolding count
 count_high x a zero l = refl
 count_high x a (suc n) l = let ih = count_high x (suc a) n (omega arith) in omega (arith, hit_other x a (λ e. omega arith))
 
 count_mid : (x a n : ℕ) → a ≤ x → x < a + n → count x (upto a n) ≡ 1
-unfolding count
 count_mid x a zero l h = absurd (omega arith)
 count_mid x a (suc n) l h =
     ⊎_elim

@@ -55,20 +55,20 @@ stamp_code_grey o e = sym (stamp_code_2 o e (e + 1) refl)
 
 module _ (o : Bool) (e : ℕ) (s : List ℕ) where
   pub coloured_nil : (k : ℕ) → Coloured o e s k []
-  unfolding Coloured count
+  unfolding Coloured
   coloured_nil k x h = absurd (omega arith)
 
   pub coloured_cons : (k x : ℕ) (xs : List ℕ) → code_at o e s x ≡ k → Coloured o e s k xs → Coloured o e s k (x ∷ xs)
-  unfolding Coloured count
+  unfolding Coloured
   coloured_cons k x xs h r y i =
       ⊎_elim (λ d. ap (code_at o e s) d ∙ h) (λ ne. r y (omega (arith, hit_other y x ne))) (cases_eq y x)
 
   pub coloured_head : (k x : ℕ) (xs : List ℕ) → Coloured o e s k (x ∷ xs) → code_at o e s x ≡ k
-  unfolding Coloured count
+  unfolding Coloured
   coloured_head k x xs h = h x (omega (arith, hit_same x))
 
   pub coloured_tail : (k x : ℕ) (xs : List ℕ) → Coloured o e s k (x ∷ xs) → Coloured o e s k xs
-  unfolding Coloured count
+  unfolding Coloured
   coloured_tail k x xs h y i = h y (omega arith)
 
   pub coloured_append : (k : ℕ) (xs ys : List ℕ) → Coloured o e s k xs → Coloured o e s k ys → Coloured o e s k (xs ++ ys)

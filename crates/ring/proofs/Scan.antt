@@ -6,7 +6,7 @@ use Rattle.std.specs.Bool.{then_some}
 use Rattle.ring.specs.Arcs.{Arcs, ring_of, scan_from}
 use Rattle.ring.specs.Calls.{left_by, moved_slot, scanned_slot, scanned_arcs, is_none}
 use Rattle.ring.specs.Sound.{Tables, count, Ringed, Starts, code_at, Coloured, arcs, Holds}
-use Rattle.ring.proofs.Chain.{hit_same, count_append, count_cons, count_nil, rotate, last_of, split_push}
+use Rattle.ring.proofs.Chain.{hit_same, count_append, rotate, last_of, split_push}
 use Rattle.ring.proofs.Held.{Sound, stamp_code_black, coloured_cons, coloured_left, coloured_right, coloured_head, coloured_painted, code_at_painted, settled, sound_from, held}
 use Rattle.ring.proofs.Carry.{lastD, lastD_append, lastD_in, back_of}
 use Rattle.ring.proofs.Steps.{once, inside, tally, stamped_painted, Off, off_coloured, off_append}
@@ -32,8 +32,8 @@ scan_lists t x f w g b h =
     let re : ring_of a ≡ ring_of a' = simp append_assoc in
     let sum = tally t a h x in
     let part = count_append x g (x ∷ []) in
-    let lone : (count x f ≡ 0) × (count x w ≡ 0) × (count x g ≡ 0) × (count x b ≡ 0) = omega (arith, once t a h x, sum, part, count_cons x x [], count_nil x, hit_same x) in
-    let below : x < t.slots = inside t a h x (omega (arith, sum, part, count_cons x x [], hit_same x)) in
+    let lone : (count x f ≡ 0) × (count x w ≡ 0) × (count x g ≡ 0) × (count x b ≡ 0) = omega (arith, once t a h x, sum, part, hit_same x) in
+    let below : x < t.slots = inside t a h x (omega (arith, sum, part, hit_same x)) in
     let long : x < length t.stamp = omega (arith, h.stamp_long) in
     record {
       ringed = rw (sym re) h.ringed;
@@ -148,7 +148,7 @@ module _ (t : Tables) (s : Sound t) where
   last_grey_in x e =
       let a = arcs t in
       let r = last_is_scanned a x e in
-      inside t a (held t s) x (omega (arith, tally t a (held t s) x, ap (count x) r.1, count_append x r.0 (x ∷ []), count_cons x x [], hit_same x))
+      inside t a (held t s) x (omega (arith, tally t a (held t s) x, ap (count x) r.1, count_append x r.0 (x ∷ []), hit_same x))
 
   pub scan_done : (x : ℕ) → Some x ≡ scanned_slot (arcs t) → Sound (scanned_at t x) × (arcs (scanned_at t x) ≡ scanned_arcs (arcs t))
   scan_done x e =

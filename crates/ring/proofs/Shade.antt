@@ -4,7 +4,7 @@ use Rattle.std.proofs.lemmas.List.{append-nil, length-append, length-set}
 use Rattle.std.proofs.lemmas.Bool.{eq-eqb, ne_eqb, cond-true, cond-false}
 use Rattle.ring.specs.Arcs.{Arcs, has, without, ring_of, shade_slot}
 use Rattle.ring.specs.Sound.{Tables, hit, count, Ringed, Starts, Coloured, arcs, Holds}
-use Rattle.ring.proofs.Chain.{hit_same, count_append, count_cons, split_at, rotate, has_some, count_has, without_at, last_of, lastOf_in}
+use Rattle.ring.proofs.Chain.{hit_same, count_append, split_at, rotate, count_has, has_count, without_at, last_of, lastOf_in}
 use Rattle.ring.proofs.Held.{Sound, stamp_code_grey, coloured_cons, coloured_left, coloured_right, coloured_append, coloured_tail, coloured_painted, code_at_painted, settled, sound_from, held}
 use Rattle.ring.proofs.Carry.{lastD, lastD_append, back_of, behind, carry, nx2, pv2}
 use Rattle.ring.proofs.Steps.{once, inside, tally, stamped_painted}
@@ -21,7 +21,7 @@ shaded_far t q z = record { next = nx2 t.next t.prev q z; prev = pv2 t.next t.pr
 
 -- A first slot that is not q stays, and q makes room for the one behind it.
 starts_shift : (x q n : ℕ) (ks bs gs ms : List ℕ) → Starts x (ks ++ (q ∷ gs)) → count q ks ≡ 0 → 0 < length bs → Starts n bs → Starts (cond (eqb x q) n x) (ks ++ (bs ++ ms))
-unfolding Starts count
+unfolding Starts
 starts_shift x q n [] [] gs ms l z some ln = absurd (omega arith)
 starts_shift x q n [] (b ∷ bs) gs ms l z some ln = rw (eq-eqb x q l) ln
 starts_shift x q n (k ∷ ks) bs gs ms l z some ln =
@@ -48,18 +48,18 @@ module _ (q : ℕ) (f w₁ w₂ g b : List ℕ) where
 
   same_count : (k : ℕ) → count k (ring_of is) ≡ count k (ring_of was)
   same_count k =
-      omega (arith, ap (count k) was_order, ap (count k) is_order, count_append k (f ++ w₁) (q ∷ (w₂ ++ (g ++ b))), count_append k (f ++ w₁) (w₂ ++ (q ∷ (g ++ b))), count_append k w₂ (q ∷ (g ++ b)), count_cons k q (w₂ ++ (g ++ b)), count_append k w₂ (g ++ b), count_cons k q (g ++ b))
+      omega (arith, ap (count k) was_order, ap (count k) is_order, count_append k (f ++ w₁) (q ∷ (w₂ ++ (g ++ b))), count_append k (f ++ w₁) (w₂ ++ (q ∷ (g ++ b))), count_append k w₂ (q ∷ (g ++ b)), count_append k w₂ (g ++ b))
 
   same_length : length (ring_of is) ≡ length (ring_of was)
   same_length = simp length-append (omega arith)
 
   module _ (t : Tables) (h : Holds t was) where
     q_in : q < t.slots
-    q_in = inside t was h q (omega (arith, tally t was h q, count_append q w₁ (q ∷ w₂), count_cons q q w₂, hit_same q))
+    q_in = inside t was h q (omega (arith, tally t was h q, count_append q w₁ (q ∷ w₂), hit_same q))
 
     -- q stands nowhere else.
     alone : (count q f ≡ 0) × (count q w₁ ≡ 0) × (count q w₂ ≡ 0) × (count q g ≡ 0) × (count q b ≡ 0)
-    alone = omega (arith, once t was h q, tally t was h q, count_append q w₁ (q ∷ w₂), count_cons q q w₂, hit_same q)
+    alone = omega (arith, once t was h q, tally t was h q, count_append q w₁ (q ∷ w₂), hit_same q)
 
     -- The colours after the write of the stamp.
     paint : (k : ℕ) (xs : List ℕ) → count q xs ≡ 0 → Coloured t.cycle t.epoch t.stamp k xs → Coloured t.cycle t.epoch (set t.stamp q (t.epoch + 1)) k xs
@@ -168,7 +168,7 @@ shade_far t q f w₁ w₂ g b h some =
 -- The arcs that `shade-slot` names, once the white arc is split at q.
 shaded_is : (q : ℕ) (f w₁ w₂ g b : List ℕ) → count q w₁ ≡ 0 → shade_slot q (was q f w₁ w₂ g b) ≡ is q f w₁ w₂ g b
 shaded_is q f w₁ w₂ g b z₁ =
-    let here : has q (w₁ ++ q ∷ w₂) ≡ true = has_some q (w₁ ++ q ∷ w₂) (omega (arith, count_append q w₁ (q ∷ w₂), count_cons q q w₂, hit_same q)) in
+    let here : has q (w₁ ++ q ∷ w₂) ≡ true = count_has q (w₁ ++ q ∷ w₂) (omega (arith, count_append q w₁ (q ∷ w₂), hit_same q)) in
     cond-true (has q (w₁ ++ q ∷ w₂)) (record { free = f; white = without q (w₁ ++ q ∷ w₂); grey = q ∷ g; black = b }) (was q f w₁ w₂ g b) here
     ∙ ap (λ (w : List ℕ). record { free = f; white = w; grey = q ∷ g; black = b }) (without_at q w₁ w₂ z₁)
 
@@ -184,10 +184,10 @@ last_other q (w ∷ ws) ne = (omega arith, refl)
 
 module _ (t : Tables) (a : Arcs) (h : Holds t a) (q : ℕ) (white : has q a.white ≡ true) where
   white_in : q < t.slots
-  white_in = inside t a h q (omega (arith, tally t a h q, count_has q a.white white))
+  white_in = inside t a h q (omega (arith, tally t a h q, has_count q a.white white))
 
   cut : (w₁ : List ℕ) × (w₂ : List ℕ) × (a.white ≡ w₁ ++ q ∷ w₂)
-  cut = split_at q a.white (count_has q a.white white)
+  cut = split_at q a.white (has_count q a.white white)
 
   same : a ≡ was q a.free cut.0 cut.1 a.grey a.black
   same = λ i. record { free = a.free; white = cut.2 i; grey = a.grey; black = a.black }

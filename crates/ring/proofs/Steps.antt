@@ -6,7 +6,7 @@ use Rattle.std.specs.Bool.{then_some}
 use Rattle.ring.specs.Arcs.{Arcs, ring_of, take_from}
 use Rattle.ring.specs.Calls.{moved_slot, taken_slot, taken_arcs, first_of}
 use Rattle.ring.specs.Sound.{Tables, count, Ringed, Starts, code_at, Coloured, arcs, Holds}
-use Rattle.ring.proofs.Chain.{hit_same, count_append, count_cons, count_nil, rotate, starts_next}
+use Rattle.ring.proofs.Chain.{hit_same, count_append, rotate, starts_next}
 use Rattle.ring.proofs.Held.{Sound, stamp_code_black, coloured_nil, coloured_cons, coloured_head, coloured_tail, coloured_append, coloured_painted, code_at_painted, settled, sound_from, held}
 use Rattle.ring.proofs.Carry.{starts_in}
 
@@ -77,16 +77,16 @@ take_lists t x f w g b h =
     let a : Arcs = record { free = x ∷ f; white = w; grey = g; black = b } in
     let a' : Arcs = record { free = f; white = w; grey = g; black = b ++ x ∷ [] } in
     let re : (f ++ (w ++ (g ++ b))) ++ x ∷ [] ≡ ring_of a' = simp append_assoc in
-    let some : 0 < count x (ring_of a) = omega (arith, count_cons x x (f ++ (w ++ (g ++ b))), hit_same x) in
+    let some : 0 < count x (ring_of a) = omega (arith, hit_same x) in
     let below : x < t.slots = inside t a h x some in
     let long : x < length t.stamp = omega (arith, h.stamp_long) in
-    let alone : count x (f ++ (w ++ (g ++ b))) ≡ 0 = omega (arith, once t a h x, count_cons x x (f ++ (w ++ (g ++ b))), hit_same x) in
+    let alone : count x (f ++ (w ++ (g ++ b))) ≡ 0 = omega (arith, once t a h x, hit_same x) in
     let parts = count_append x f (w ++ (g ++ b)) in
     let parts_w = count_append x w (g ++ b) in
     let parts_g = count_append x g b in
     record {
       ringed = rw (sym re) (rotate (λ k. get_or t.next k 0) (λ k. get_or t.prev k 0) (x ∷ []) (f ++ (w ++ (g ++ b))) h.ringed);
-      full = λ k. ap (count k) (sym re) ∙ (count_append k (f ++ (w ++ (g ++ b))) (x ∷ []) ∙ (omega (arith, count_cons k x (f ++ (w ++ (g ++ b))), count_cons k x [], count_nil k) ∙ h.full k));
+      full = λ k. ap (count k) (sym re) ∙ (count_append k (f ++ (w ++ (g ++ b))) (x ∷ []) ∙ (omega arith ∙ h.full k));
       sized = ap length (sym re) ∙ (length-append (f ++ (w ++ (g ++ b))) (x ∷ []) ∙ omega (arith, h.sized));
       head_at = rw (sym re) (starts_next (λ k. get_or t.next k 0) (λ k. get_or t.prev k 0) x (f ++ (w ++ (g ++ b))) h.ringed);
       grey_at = rw (append_assoc b (x ∷ []) (f ++ w)) h.grey_at;
@@ -141,7 +141,7 @@ module _ (t : Tables) (a : Arcs) (h : Holds t a) where
   free_in : (x : ℕ) → Some x ≡ first_of a.free → x < t.slots
   free_in x e =
       let r = first_is x a.free e in
-      inside t a h x (omega (arith, tally t a h x, ap (count x) r.1, count_cons x x r.0, hit_same x))
+      inside t a h x (omega (arith, tally t a h x, ap (count x) r.1, hit_same x))
 
   take_held : (x : ℕ) → Some x ≡ first_of a.free → Holds (took t x) (taken_arcs a)
   take_held x e =

@@ -9,6 +9,7 @@ use Rattle.ring.specs.Calls.{lengths_of}
 use Rattle.ring.specs.Count.{one_more}
 use Rattle.ring.specs.Sound.{Tables, stamp_colour, code, stamp_code, walk, code_at, arc, arcs}
 use Rattle.ring.proofs.Bounds.{head_in, links_in}
+use Rattle.ring.proofs.Chain.{one_most}
 use Rattle.ring.proofs.Held.{Sound, held}
 
 unfoldable pub step : List ℕ → ℕ → ℕ → ℕ
@@ -47,11 +48,7 @@ seen_more t i k =
 
 seen_le : (t : Tables) (i k : ℕ) → seen t i k ≤ i
 seen_le t zero k = omega (arith, seen_none t k)
-seen_le t (suc i) k = let e : seen t (suc i) k ≡ seen t (i + 1) k = rw (add-one i) in let b = cond_le (eqb (code_at t.cycle t.epoch t.stamp (step t.next i t.head)) k) in omega (arith, seen_le t i k, seen_more t i k)
-  where
-    cond_le : (b : Bool) → cond b 1 0 ≤ 1
-    cond_le true = omega arith
-    cond_le false = omega arith
+seen_le t (suc i) k = let e : seen t (suc i) k ≡ seen t (i + 1) k = rw (add-one i) in let b = one_most (eqb (code_at t.cycle t.epoch t.stamp (step t.next i t.head)) k) in omega (arith, seen_le t i k, seen_more t i k)
 
 -- One more slot of a colour, by the colour's number.
 abbrev one_if : Colour → ℕ → ℕ

@@ -6,7 +6,7 @@ use Rattle.ring.specs.declared.arcs.Colour.TheVariants.{Free, White}
 use Rattle.ring.specs.Arcs.{Arcs, open_arcs, close_arcs}
 use Rattle.ring.specs.Calls.{is_none, may_close, closed_arcs, still_open}
 use Rattle.ring.specs.Sound.{Tables, stamp_colour, code, stamp_code, count, code_at, Coloured, arcs, Holds}
-use Rattle.ring.proofs.Chain.{count_append, count_nil}
+use Rattle.ring.proofs.Chain.{count_append}
 use Rattle.ring.proofs.Held.{Sound, stamp_code_3, stamp_code_2, stamp_code_1, stamp_code_0, coloured_nil, settled, sound_from, held}
 use Rattle.ring.proofs.Steps.{inside, tally}
 
@@ -101,8 +101,8 @@ renew_held t st a h e long hs =
           let l : x < t.slots = inside t a h x (omega (arith, tally t a h x)) in
           let z = low x l (from_0 t.cycle t.epoch (get_or t.stamp x 0) (h.frees x i)).0 in
           sym (stamp_code_0 t.cycle 2 (get_or st x 0) (λ d. omega arith) (λ d. omega arith) (λ y d. both_ways t.cycle e y));
-      whites = λ x i. absurd (omega (arith, ap (count x) n.0, count_nil x));
-      greys = λ x i. absurd (omega (arith, ap (count x) n.1, count_nil x));
+      whites = λ x i. absurd (omega (arith, ap (count x) n.0));
+      greys = λ x i. absurd (omega (arith, ap (count x) n.1));
       blacks = λ x i.
           let l : x < t.slots = inside t a h x (omega (arith, tally t a h x)) in
           sym (stamp_code_3 t.cycle 2 (get_or st x 0) (high x l (from_3 t.cycle t.epoch (get_or t.stamp x 0) (h.blacks x i))));

@@ -50,10 +50,10 @@ unfoldable pub arcs : Tables → Arcs
 arcs t = record { free = arc t 0; white = arc t 1; grey = arc t 2; black = arc t 3 }
 
 -- How often a number stands in a list.
-unfoldable pub hit : ℕ → ℕ → ℕ
+abbrev pub hit : ℕ → ℕ → ℕ
 hit x y = cond (x == y) 1 0
 
-unfoldable pub count : ℕ → List ℕ → ℕ
+abbrev pub count : ℕ → List ℕ → ℕ
 count x [] = 0
 count x (y ∷ ys) = hit x y + count x ys
 

@@ -6,7 +6,8 @@ use Rattle.rules.specs.History.{History, new_history}
 use Rattle.rules.specs.Promise.{InRange}
 use Rattle.rules.specs.Statements.{after, may_refuse, Answered}
 use Rattle.std.proofs.lemmas.Bool.{eqb-true, true≢false}
-use Rattle.rules.proofs.Counting.{count_hasnt, hasnt_count}
+use Rattle.ring.proofs.Chain.{count_hasnt}
+use Rattle.rules.proofs.Counting.{hasnt_count}
 use Rattle.rules.proofs.Invariant.{Inv}
 use Rattle.rules.proofs.Runs.{run_sound, new_sound}
 use Rattle.rules.proofs.Refusals.{earlier, not_refused}

@@ -46,9 +46,6 @@ module _ (z : Sizes) (b : Barrier) (j : History) (inv : Inv z j) where
   nil_no : (t : ℕ) → nil ≡ ref t → ⊥
   nil_no t e = let k : ◌≡◌ {A = ℕ} 0 1 = cc in omega arith
 
-  ref_is : (r t : ℕ) → ref r ≡ ref t → r ≡ t
-  ref_is r t e = cc
-
   link_source : (i r k : ℕ) → get_or j.book.registers i nil ≡ ref r → Source j (get_or (book_record j.book r).links k nil)
   link_source i r k e t h = linked k (held i e) h
 

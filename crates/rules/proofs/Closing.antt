@@ -10,7 +10,9 @@ use Rattle.rules.specs.History.{History, HoldsIn, Holds, owners_after_freeing}
 use Rattle.rules.specs.Promise.{LeadsTo, StandsForIn, StandsFor}
 use Rattle.std.proofs.lemmas.Bool.{cases_lt, true≢false, lt-ltb, eqb-true, eqb-false}
 use Rattle.std.proofs.lemmas.List.{length-append, length-set, get_or-set_other, get_or_past}
-use Rattle.rules.proofs.Counting.{count, one_if, count_append, has_count, hasnt_count, count_hasnt}
+use Rattle.ring.specs.Sound.{count}
+use Rattle.ring.proofs.Chain.{count_append, has_count, count_hasnt}
+use Rattle.rules.proofs.Counting.{one_if, hasnt_count}
 use Rattle.rules.proofs.Standing.{place_of_number}
 use Rattle.rules.proofs.Invariant.{Fields, Ring, Inv, place_from, placed}
 use Rattle.rules.proofs.Shading.{Shaded, shaded_all, shaded_ring, shade_all_white, ring_once}

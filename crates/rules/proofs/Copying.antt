@@ -9,7 +9,9 @@ use Rattle.rules.specs.Book.{nil, no_book_record, Book}
 use Rattle.rules.specs.History.{HoldsIn}
 use Rattle.std.proofs.lemmas.Bool.{cases_eq, ltb-true}
 use Rattle.std.proofs.lemmas.List.{length-append, length-set, get_or-set_same, get_or-set_other}
-use Rattle.rules.proofs.Counting.{count, one_if, count_append, has_count, count_has, count_self, count_other}
+use Rattle.ring.specs.Sound.{count}
+use Rattle.ring.proofs.Chain.{count_append, has_count, count_has}
+use Rattle.rules.proofs.Counting.{one_if, count_self, count_other}
 use Rattle.rules.proofs.Standing.{stands_more, getD_set_cases}
 use Rattle.rules.proofs.Invariant.{Match, Fields, Ring, Noted, total}
 use Rattle.rules.proofs.Shading.{ring_once}
@@ -39,7 +41,7 @@ module _ (z : Sizes) (ns : List ℕ) (bk : Book) (E : ℕ → Evacuation → Lis
   abbrev os' : List (Option ℕ)
   os' = set os q (Some r)
 
-  counts : (s : ℕ) → count s c.store.arcs.free ≡ one_if (eqb q s) + count s qs
+  counts : (s : ℕ) → count s c.store.arcs.free ≡ one_if (eqb s q) + count s qs
   counts s = ap (count s) first
 
   pub q_once : count q c.store.arcs.free ≡ suc (count q qs)

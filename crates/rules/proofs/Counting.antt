@@ -1,50 +1,24 @@
 -- Counting in a list of slots: has, without and split-last by counts, so that omega does the rest.
-use Rattle.std.proofs.Common.{◌≡◌, ℕ, suc, ◌+◌, ◌<◌, ◌≤◌, Bool, true, false, cond, ◌||◌, eqb, List, [], ◌∷◌, ◌++◌, length, refl, ap, arith}
+use Rattle.std.proofs.Common.{◌≡◌, ℕ, suc, ◌+◌, ◌≤◌, Bool, true, false, cond, ◌||◌, eqb, List, [], ◌∷◌, length, sym, refl, ap, arith}
+use Rattle.std.proofs.lemmas.Bool.{eqb-true, eq-eqb}
 use Rattle.ring.specs.Arcs.{has, without, split_last}
-use Rattle.std.proofs.lemmas.Bool.{eqb-true, eq-eqb, ne_eqb, cases_Bool}
+use Rattle.ring.specs.Sound.{count}
+use Rattle.ring.proofs.Chain.{hit_same, hit_other, count_has}
 
 abbrev pub one_if : Bool → ℕ
-one_if true = 1
-one_if false = 0
-
-abbrev pub count : ℕ → List ℕ → ℕ
-count q [] = 0
-count q (x ∷ xs) = one_if (eqb x q) + count q xs
-
-pub count_append : (q : ℕ) (xs ys : List ℕ) → count q (xs ++ ys) ≡ count q xs + count q ys
-count_append q [] ys = omega arith
-count_append q (x ∷ xs) ys = omega (arith, count_append q xs ys)
-
-pub has_count : (q : ℕ) (xs : List ℕ) → has q xs ≡ true → 0 < count q xs
-has_count q [] h = grind arith
-has_count q (x ∷ xs) h = go (eqb x q) h (has_count q xs)
-  where
-    go : (t : Bool) → (t || has q xs) ≡ true → (has q xs ≡ true → 0 < count q xs) → 0 < one_if t + count q xs
-    go true h f = omega arith
-    go false h f = omega (arith, f h)
-
-pub count_has : (q : ℕ) (xs : List ℕ) → 0 < count q xs → has q xs ≡ true
-count_has q [] h = absurd (omega arith)
-count_has q (x ∷ xs) h = go (eqb x q) h (count_has q xs)
-  where
-    go : (t : Bool) → 0 < one_if t + count q xs → (0 < count q xs → has q xs ≡ true) → (t || has q xs) ≡ true
-    go true h f = refl
-    go false h f = f (omega arith)
+one_if t = cond t 1 0
 
 pub hasnt_count : (q : ℕ) (xs : List ℕ) → has q xs ≡ false → count q xs ≡ 0
 hasnt_count q xs h = grind (arith, count_has q xs)
-
-pub count_hasnt : (q : ℕ) (xs : List ℕ) → count q xs ≡ 0 → has q xs ≡ false
-count_hasnt q xs h = grind (arith, has_count q xs, cases_Bool (has q xs))
 
 pub has_self : (q : ℕ) (xs : List ℕ) → has q (q ∷ xs) ≡ true
 has_self q xs = grind (arith, eq-eqb q q refl)
 
 pub count_self : (q : ℕ) (xs : List ℕ) → count q (q ∷ xs) ≡ suc (count q xs)
-count_self q xs = grind (arith, eq-eqb q q refl)
+count_self q xs = omega (arith, hit_same q)
 
 pub count_other : (q x : ℕ) (xs : List ℕ) → (x ≡ q → ⊥) → count q (x ∷ xs) ≡ count q xs
-count_other q x xs n = grind (arith, ne_eqb x q n)
+count_other q x xs n = omega (arith, hit_other q x (λ e. n (sym e)))
 
 pub length_without : (q : ℕ) (xs : List ℕ) → has q xs ≡ true → suc (length (without q xs)) ≡ length xs
 length_without q [] h = grind arith
@@ -54,15 +28,15 @@ length_without q (x ∷ xs) h = go (eqb x q) h (length_without q xs)
     go true h f = refl
     go false h f = ap suc (f h)
 
-pub count_without : (q r : ℕ) (xs : List ℕ) → has q xs ≡ true → count r (without q xs) + one_if (eqb q r) ≡ count r xs
+pub count_without : (q r : ℕ) (xs : List ℕ) → has q xs ≡ true → count r (without q xs) + one_if (eqb r q) ≡ count r xs
 count_without q r [] h = grind arith
 count_without q r (x ∷ xs) h = go (eqb x q) refl h (count_without q r xs)
   where
-    go : (t : Bool) → eqb x q ≡ t → (t || has q xs) ≡ true → (has q xs ≡ true → count r (without q xs) + one_if (eqb q r) ≡ count r xs) → count r (cond t xs (x ∷ without q xs)) + one_if (eqb q r) ≡ one_if (eqb x r) + count r xs
+    go : (t : Bool) → eqb x q ≡ t → (t || has q xs) ≡ true → (has q xs ≡ true → count r (without q xs) + one_if (eqb r q) ≡ count r xs) → count r (cond t xs (x ∷ without q xs)) + one_if (eqb r q) ≡ one_if (eqb r x) + count r xs
     go true e h f = let k : x ≡ q = eqb-true x q e in rw k (omega arith)
     go false e h f = omega (arith, f h)
 
-pub count_split_last : (q x : ℕ) (xs : List ℕ) → count q (split_last x xs).0 + one_if (eqb (split_last x xs).1 q) ≡ count q (x ∷ xs)
+pub count_split_last : (q x : ℕ) (xs : List ℕ) → count q (split_last x xs).0 + one_if (eqb q (split_last x xs).1) ≡ count q (x ∷ xs)
 count_split_last q x [] = omega arith
 count_split_last q x (y ∷ ys) = omega (arith, count_split_last q y ys)
 

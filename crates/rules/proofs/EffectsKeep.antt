@@ -10,7 +10,9 @@ use Rattle.rules.specs.History.{History, HoldsIn, Holds}
 use Rattle.rules.specs.Promise.{StandsForIn, StandsFor}
 use Rattle.std.proofs.lemmas.Bool.{cases_eq, cases_lt, both_ways, lt-ltb}
 use Rattle.std.proofs.lemmas.List.{length-append, length-set, get_or_append_left, get_or_at, get_or-set_same, get_or-set_other}
-use Rattle.rules.proofs.Counting.{count, one_if, count_append, has_count, count_has, has_self, hasnt_count, count_self, count_other}
+use Rattle.ring.specs.Sound.{count}
+use Rattle.ring.proofs.Chain.{count_append, has_count, count_has}
+use Rattle.rules.proofs.Counting.{one_if, has_self, hasnt_count, count_self, count_other}
 use Rattle.rules.proofs.Standing.{link_at_cases, getD_set_cases, set_both, stands_more, stands_place, place_of_nursery}
 use Rattle.rules.proofs.Invariant.{Match, Fields, Noted, Inv, slot_below}
 use Rattle.rules.proofs.Effects.{put_history, make_history, link_young, link_old, fill_history, Ready, Effect, stay, puts, makes, writes_young, writes_old, fills}

@@ -11,7 +11,7 @@ use Rattle.rules.specs.History.{History, HoldsIn, Holds, owners_after_copying}
 use Rattle.rules.specs.Promise.{LeadsTo, StandsForIn}
 use Rattle.std.proofs.lemmas.Bool.{cases_eq, cases_lt, true≢false}
 use Rattle.std.proofs.lemmas.List.{append-nil, append_assoc, length-append, length-set, get_or-set_same, get_or-set_other, get_or_past, drop_all, ext_get_or}
-use Rattle.rules.proofs.Counting.{count_append, has_count, count_has}
+use Rattle.ring.proofs.Chain.{count_append, has_count, count_has}
 use Rattle.rules.proofs.Invariant.{Fields, Noted, Inv}
 use Rattle.rules.proofs.Shading.{shaded_if}
 use Rattle.rules.proofs.Evacuating.{Evacuating, Fine, fine_less, fine_same, fine_nothing, nones_all, some_within, none_some, some_is}

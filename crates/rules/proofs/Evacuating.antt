@@ -10,7 +10,9 @@ use Rattle.rules.specs.History.{HoldsIn}
 use Rattle.rules.specs.Promise.{StandsForIn}
 use Rattle.std.proofs.lemmas.Bool.{cases_eq, cases_lt}
 use Rattle.std.proofs.lemmas.List.{append_assoc, drop-append-le, get_or_past}
-use Rattle.rules.proofs.Counting.{count, count_append, has_count, count_has, count_self}
+use Rattle.ring.specs.Sound.{count}
+use Rattle.ring.proofs.Chain.{count_append, has_count, count_has}
+use Rattle.rules.proofs.Counting.{count_self}
 use Rattle.rules.proofs.Invariant.{Fields, Ring, Noted}
 
 -- how many nursery places are not copied yet

@@ -1,15 +1,16 @@
 -- Chains along link 0: they are determined, a chain that ends repeats no place, and so it is short.
-use Rattle.std.proofs.Common.{◌≡◌, ℕ, zero, suc, ◌+◌, ◌<◌, ◌≤◌, Bool, true, false, cond, ◌&&◌, ◌||◌, eqb, ltb, leb, List, [], ◌∷◌, map, length, Some, None, Option, sym, refl, ap, ◌∙◌, subst, zero-add, arith}
+use Rattle.std.proofs.Common.{◌≡◌, ℕ, zero, suc, ◌+◌, ◌<◌, ◌≤◌, Bool, true, false, cond, ◌||◌, eqb, ltb, List, [], ◌∷◌, map, length, Some, None, Option, sym, refl, ap, ◌∙◌, subst, arith}
 use Rattle.std.proofs.lemmas.List.{length-map}
-use Rattle.std.proofs.lemmas.Bool.{eqb-true, ltb-true, lt-ltb, le-leb}
+use Rattle.std.proofs.lemmas.Bool.{eqb-true, ltb-true, lt-ltb}
 use Rattle.words.specs.Words.{place_of}
 use Rattle.words.specs.declared.place.Place.{Place}
 use Rattle.words.specs.declared.place.Place.TheVariants.{Young, Old}
 use Rattle.ring.specs.Arcs.{has, upto}
 use Rattle.rules.specs.Rules.{Sizes, Store, in_store}
 use Rattle.rules.specs.Chains.{leads, first_link, Chain, ends, goes, follow, stops, then_on, onto_chain, all_places, FollowedToTheEnd}
-use Rattle.rules.proofs.Counting.{count, one_if, hasnt_count, length_by_counts}
-use Rattle.rules.proofs.Invariant.{count_upto, length_upto}
+use Rattle.ring.specs.Sound.{count}
+use Rattle.ring.proofs.Fresh.{count_upto, length_upto}
+use Rattle.rules.proofs.Counting.{one_if, hasnt_count, length_by_counts}
 
 module _ (z : Sizes) (s : Store) where
   -- following finds chains
@@ -110,18 +111,18 @@ module _ (z : Sizes) (s : Store) where
   once : (w : ℕ) (ps : List Place) (q : ℕ) → Chain z s w ps → count q (codes ps) ≤ one_if (ltb q (all_places z s))
   unfolding codes
   once w [] q (ends e) = omega arith
-  once w (p ∷ ps) q (goes e c) = go (eqb (code p) q) refl (has q (codes ps)) refl (once (first_link s p) ps q c) (onward (first_link s p) ps q c)
+  once w (p ∷ ps) q (goes e c) = go (eqb q (code p)) refl (has q (codes ps)) refl (once (first_link s p) ps q c) (onward (first_link s p) ps q c)
     where
-      low : (eqb (code p) q ≡ true) → ltb q (all_places z s) ≡ true
-      low f = let k : code p ≡ q = eqb-true _ _ f in lt-ltb q (all_places z s) (omega (arith, k, code_low p (within w p e)))
+      low : (eqb q (code p) ≡ true) → ltb q (all_places z s) ≡ true
+      low f = let k : q ≡ code p = eqb-true _ _ f in lt-ltb q (all_places z s) (omega (arith, k, code_low p (within w p e)))
 
-      twice : (eqb (code p) q ≡ true) → Onward ps q → ⊥
+      twice : (eqb q (code p) ≡ true) → Onward ps q → ⊥
       twice f o =
-          let same : o.place ≡ p = code_same o.place p o.inside (within w p e) (o.number ∙ sym (eqb-true _ _ f)) in
+          let same : o.place ≡ p = code_same o.place p o.inside (within w p e) (o.number ∙ eqb-true _ _ f) in
           let rest : o.rest ≡ ps = chain_unique (first_link s p) o.rest ps (subst (λ x. Chain z s (first_link s x) o.rest) same o.chain) c in
           omega (arith, o.shorter, ap length rest)
 
-      go : (t : Bool) → eqb (code p) q ≡ t → (u : Bool) → has q (codes ps) ≡ u → count q (codes ps) ≤ one_if (ltb q (all_places z s)) → (has q (codes ps) ≡ true → Onward ps q) → one_if t + count q (codes ps) ≤ one_if (ltb q (all_places z s))
+      go : (t : Bool) → eqb q (code p) ≡ t → (u : Bool) → has q (codes ps) ≡ u → count q (codes ps) ≤ one_if (ltb q (all_places z s)) → (has q (codes ps) ≡ true → Onward ps q) → one_if t + count q (codes ps) ≤ one_if (ltb q (all_places z s))
       go true f true g h o = absurd (twice f (o g))
       go true f false g h o = rw (low f) (omega (arith, hasnt_count q (codes ps) g))
       go false f u g h o = omega (arith, h)
@@ -130,11 +131,8 @@ module _ (z : Sizes) (s : Store) where
   chain_short : (w : ℕ) (ps : List Place) → Chain z s w ps → length ps ≤ all_places z s
   unfolding codes
   chain_short w ps c =
-      let few : length (codes ps) ≤ length (upto 0 (all_places z s)) = length_by_counts (codes ps) (upto 0 (all_places z s)) (λ q. rw (count_upto q 0 (all_places z s)) (bounded q (once w ps q c))) in
+      let few : length (codes ps) ≤ length (upto 0 (all_places z s)) = length_by_counts (codes ps) (upto 0 (all_places z s)) (λ q. rw (count_upto q (all_places z s)) (once w ps q c)) in
       omega (arith, few, length_upto 0 (all_places z s), length-map ps code)
-    where
-      bounded : (q : ℕ) → count q (codes ps) ≤ one_if (ltb q (all_places z s)) → count q (codes ps) ≤ one_if (leb 0 q && ltb q (0 + all_places z s))
-      bounded q h = rw (le-leb 0 q (omega arith)) (subst (λ n. count q (codes ps) ≤ one_if (ltb q n)) (sym (zero-add (all_places z s))) h)
 
 pub followed_to_the_end : FollowedToTheEnd
 followed_to_the_end z s w ps =

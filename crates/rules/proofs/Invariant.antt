@@ -1,5 +1,5 @@
 -- The invariant of store, book and places between calls, and what it says of what is reachable.
-use Rattle.std.proofs.Common.{◌≡◌, ℕ, zero, suc, ◌+◌, ◌<◌, ◌≤◌, Bool, true, false, ◌&&◌, ltb, leb, ◌⊎◌, List, [], length, get_or, replicate, Some, None, Option, sym, refl, ap, ◌∙◌, inl, inr, arith}
+use Rattle.std.proofs.Common.{◌≡◌, ℕ, zero, suc, ◌+◌, ◌<◌, ◌≤◌, Bool, true, false, ltb, ◌⊎◌, List, [], length, get_or, replicate, Some, None, Option, sym, refl, ◌∙◌, inl, inr, arith}
 use Rattle.words.specs.Words.{nothing, place_of}
 use Rattle.words.specs.declared.place.Place.{Place}
 use Rattle.words.specs.declared.place.Place.TheVariants.{Young, Old}
@@ -8,9 +8,12 @@ use Rattle.rules.specs.Rules.{Record, no_record, Sizes, record_in, record_at, is
 use Rattle.rules.specs.Book.{nil, ref, BookRecord, no_book_record, Reachable, held, linked}
 use Rattle.rules.specs.History.{History, HoldsIn, Holds, new_history}
 use Rattle.rules.specs.Promise.{LeadsTo, StandsForIn, StandsFor, NotFree, Placed, EverySlotOnce, Faithful}
-use Rattle.std.proofs.lemmas.Bool.{cases_lt, cases_order, true≢false, lt-ltb}
+use Rattle.std.proofs.lemmas.Bool.{cases_lt, true≢false, lt-ltb}
 use Rattle.std.proofs.lemmas.List.{length-append, length-replicate, get_or_past}
-use Rattle.rules.proofs.Counting.{count, one_if, count_append, count_has}
+use Rattle.ring.specs.Sound.{count}
+use Rattle.ring.proofs.Chain.{count_append, count_has}
+use Rattle.ring.proofs.Fresh.{count_upto, length_upto}
+use Rattle.rules.proofs.Counting.{one_if}
 
 -- a record at a place is the book's
 pub record Match (H : Place → ℕ → Type 0) (n : ℕ) (x : Record) (y : BookRecord) : Type 0 where
@@ -110,14 +113,6 @@ module _ (z : Sizes) (j : History) (inv : Inv z j) where
   faithful = record { registers = λ i _. inv.regs i; records = kept; ring = whole; nursery_fits = inv.nursery_cap; together = omega (arith, inv.room, inv.ring.size) }
 
 -- a new store and an empty book
-pub count_upto : (q i n : ℕ) → count q (upto i n) ≡ one_if (leb i q && ltb q (i + n))
-count_upto q i zero = grind (arith, cases_lt q i)
-count_upto q i (suc n) = let f = count_upto q (suc i) n in grind (arith, f, cases_order q i)
-
-pub length_upto : (i n : ℕ) → length (upto i n) ≡ n
-length_upto i zero = refl
-length_upto i (suc n) = ap suc (length_upto (suc i) n)
-
 getD_same : {X : Type 0} (n i : ℕ) (d : X) → get_or (replicate n d) i d ≡ d
 getD_same zero i d = refl
 getD_same (suc n) zero d = refl
@@ -130,13 +125,13 @@ new_inv z slots l = record {
   nursery_size = refl;
   nursery_cap = omega arith;
   slots_size = l;
-  ring = record { size = omega (arith, length_upto 0 z.slots); each = λ q. grind (arith, count_upto q 0 z.slots) };
+  ring = record { size = omega (arith, length_upto 0 z.slots); each = λ q. grind (arith, count_upto q z.slots) };
   quiet = λ _. (refl, refl);
   room = omega arith;
   owners = record {
     size = length-replicate z.slots None;
     free_none = λ q _. getD_same z.slots q None;
-    none_free = λ q h _. count_has q (upto 0 z.slots) (grind (arith, count_upto q 0 z.slots));
+    none_free = λ q h _. count_has q (upto 0 z.slots) (grind (arith, count_upto q z.slots));
     below = λ p r h. absurd (no_place p r h);
     unique = λ p p' r h _. absurd (no_place p r h);
   };

@@ -5,8 +5,10 @@ use Rattle.ring.specs.Arcs.{has, upto}
 use Rattle.rules.specs.Rules.{Record, Barrier, Lawful, Sizes, Call, refused, is_young, needs_note, run_call}
 use Rattle.rules.specs.History.{History, history_run, new_history}
 use Rattle.std.proofs.lemmas.Bool.{cases_eq, lt-leb, lt-ltb}
-use Rattle.rules.proofs.Counting.{count, one_if, count_self, count_other, hasnt_count, length_by_counts}
-use Rattle.rules.proofs.Invariant.{Inv, count_upto, length_upto}
+use Rattle.ring.specs.Sound.{count}
+use Rattle.ring.proofs.Fresh.{count_upto, length_upto}
+use Rattle.rules.proofs.Counting.{one_if, count_self, count_other, hasnt_count, length_by_counts}
+use Rattle.rules.proofs.Invariant.{Inv}
 use Rattle.rules.proofs.Runs.{run_sound, new_sound}
 use Rattle.rules.proofs.Refusals.{not_refused}
 
@@ -15,11 +17,8 @@ module _ (z : Sizes) (j : History) (inv : Inv z j) where
   notes_few : (q : ℕ) → q < z.slots → has q j.store.notes ≡ false → length j.store.notes < z.slots
   notes_few q l n = omega (arith, length_by_counts (q ∷ j.store.notes) (upto 0 z.slots) once, length_upto 0 z.slots)
     where
-      all : (s : ℕ) → count s (upto 0 z.slots) ≡ one_if (ltb s z.slots)
-      all s = grind (arith, count_upto s 0 z.slots)
-
       once : (s : ℕ) → count s (q ∷ j.store.notes) ≤ count s (upto 0 z.slots)
-      once s = rw (all s) (by (cases_eq q s))
+      once s = rw (count_upto s z.slots) (by (cases_eq q s))
         where
           here : count q (q ∷ j.store.notes) ≤ one_if (ltb q z.slots)
           here = rw (lt-ltb q z.slots l) (omega (arith, count_self q j.store.notes, hasnt_count q j.store.notes n))

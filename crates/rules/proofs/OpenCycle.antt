@@ -10,7 +10,8 @@ use Rattle.rules.specs.History.{History, HoldsIn}
 use Rattle.rules.specs.Promise.{StandsForIn}
 use Rattle.std.proofs.lemmas.Bool.{cases_lt, cases_order, eqb-true}
 use Rattle.std.proofs.lemmas.List.{length-append, length-set, get_or_append_left, get_or_at, get_or_past}
-use Rattle.rules.proofs.Counting.{count, one_if}
+use Rattle.ring.specs.Sound.{count}
+use Rattle.rules.proofs.Counting.{one_if}
 use Rattle.rules.proofs.Standing.{getD_set_cases, place_of_number}
 use Rattle.rules.proofs.Invariant.{place_from}
 use Rattle.rules.proofs.Effects.{Source, make_history, link_book, Ready}
@@ -92,10 +93,10 @@ shade_marks w a q h = go (place_of w) refl h
   where
     at_slot : (s : ℕ) → place_of w ≡ Some (Old s) → (t : Bool) → 0 < count q (cond t (record { free = a.free; white = without s a.white; grey = s ∷ a.grey; black = a.black }) a).grey → (0 < count q a.grey) ⊎ (place_of w ≡ Some (Old q))
     at_slot s e false h = inl h
-    at_slot s e true h = by (eqb s q) refl h
+    at_slot s e true h = by (eqb q s) refl h
       where
-        by : (t : Bool) → eqb s q ≡ t → 0 < one_if t + count q a.grey → (0 < count q a.grey) ⊎ (place_of w ≡ Some (Old q))
-        by true f h = inr (e ∙ ap (λ x. Some (Old x)) (eqb-true s q f))
+        by : (t : Bool) → eqb q s ≡ t → 0 < one_if t + count q a.grey → (0 < count q a.grey) ⊎ (place_of w ≡ Some (Old q))
+        by true f h = inr (e ∙ ap (λ x. Some (Old x)) (sym (eqb-true q s f)))
         by false f h = inl (omega arith)
 
     go : (o : Option Place) → place_of w ≡ o → 0 < count q (shade_place o a).grey → (0 < count q a.grey) ⊎ (place_of w ≡ Some (Old q))

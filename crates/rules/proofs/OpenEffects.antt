@@ -10,7 +10,8 @@ use Rattle.rules.specs.History.{History, Holds}
 use Rattle.rules.specs.Promise.{StandsFor}
 use Rattle.std.proofs.lemmas.Bool.{or_right}
 use Rattle.std.proofs.lemmas.List.{get_or_append_left}
-use Rattle.rules.proofs.Counting.{count, count_has}
+use Rattle.ring.specs.Sound.{count}
+use Rattle.ring.proofs.Chain.{count_has}
 use Rattle.rules.proofs.Standing.{getD_set_cases, link_at_cases}
 use Rattle.rules.proofs.Invariant.{Inv}
 use Rattle.rules.proofs.Effects.{Source, put_history, make_history, link_young, link_old, link_book, fill_history, Ready, Effect, stay, puts, makes, writes_young, writes_old, fills}

@@ -9,7 +9,9 @@ use Rattle.rules.specs.History.{History, HoldsIn}
 use Rattle.rules.specs.Promise.{StandsForIn}
 use Rattle.std.proofs.lemmas.Bool.{cases_eq, true≢false, or_cases, eqb-true, and_from}
 use Rattle.std.proofs.lemmas.List.{append-nil, drop_all}
-use Rattle.rules.proofs.Counting.{count, has_count, count_append, count_other}
+use Rattle.ring.specs.Sound.{count}
+use Rattle.ring.proofs.Chain.{has_count, count_append}
+use Rattle.rules.proofs.Counting.{count_other}
 use Rattle.rules.proofs.Standing.{link_at_cases}
 use Rattle.rules.proofs.Invariant.{Inv}
 use Rattle.rules.proofs.Shading.{Shaded, shaded_if, ring_once}

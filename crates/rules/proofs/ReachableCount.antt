@@ -1,28 +1,15 @@
 -- The reachable records can be counted, and there is only one count.
-use Rattle.std.proofs.Common.{◌≡◌, ℕ, zero, suc, ◌<◌, ◌≤◌, Bool, true, false, eqb, ltb, ◌⊎◌, List, [], ◌∷◌, length, get_or, sym, refl, ap, ◌∙◌, subst, inl, inr, arith}
+use Rattle.std.proofs.Common.{◌≡◌, ℕ, suc, ◌<◌, ◌≤◌, eqb, ltb, ◌⊎◌, List, [], ◌∷◌, length, get_or, sym, refl, ap, ◌∙◌, subst, inl, inr, arith}
 use Rattle.rules.specs.Book.{Book, Reachable}
 use Rattle.rules.specs.Tracing.{TraceState, trace_start, Traced, started, TraceSteps}
 use Rattle.rules.specs.Promise.{Distinct, Counted}
 use Rattle.std.proofs.lemmas.Bool.{cases_eq, cases_lt, lt-ltb}
-use Rattle.rules.proofs.Counting.{count, one_if, count_has, has_count, count_self, count_other, length_by_counts}
+use Rattle.ring.specs.Sound.{count}
+use Rattle.ring.proofs.Chain.{count_at, count_has, has_count, one_most}
+use Rattle.ring.proofs.Around.{same_place}
+use Rattle.rules.proofs.Counting.{one_if, count_other, length_by_counts}
 use Rattle.rules.proofs.Tracing.{TraceOk, traced_ok, done_white}
 use Rattle.rules.proofs.TracingEnds.{tracing_ends}
-
-has_at : (xs : List ℕ) (i : ℕ) → i < length xs → 0 < count (get_or xs i 0) xs
-has_at [] i l = absurd (omega arith)
-has_at (x ∷ xs) zero l = omega (arith, count_self x xs)
-has_at (x ∷ xs) (suc i) l = omega (arith, has_at xs i (omega arith))
-
-pub distinct_from : (xs : List ℕ) → ((q : ℕ) → count q xs ≤ 1) → Distinct xs
-distinct_from [] h i k l m e = absurd (omega arith)
-distinct_from (x ∷ xs) h zero zero l m e = refl
-distinct_from (x ∷ xs) h zero (suc k) l m e = absurd (omega (arith, h x, count_self x xs, subst (λ n. 0 < count n xs) (sym e) (has_at xs k (omega arith))))
-distinct_from (x ∷ xs) h (suc i) zero l m e = absurd (omega (arith, h x, count_self x xs, subst (λ n. 0 < count n xs) e (has_at xs i (omega arith))))
-distinct_from (x ∷ xs) h (suc i) (suc k) l m e = ap suc (distinct_from xs (λ q. omega (arith, h q)) i k (omega arith) (omega arith) e)
-
-one_most : (t : Bool) → one_if t ≤ 1
-one_most true = omega arith
-one_most false = omega arith
 
 -- where a number stands in a list that has it
 index_of : (xs : List ℕ) (q : ℕ) → 0 < count q xs → (i : ℕ) × (i < length xs) × (get_or xs i 0 ≡ q)
@@ -39,7 +26,7 @@ distinct_once (x ∷ xs) d q = go (cases_eq x q) (cases_lt 0 (count q xs)) (dist
   where
     go : (x ≡ q) ⊎ (x ≡ q → ⊥) → (0 < count q xs) ⊎ (count q xs ≤ 0) → count q xs ≤ 1 → count q (x ∷ xs) ≤ 1
     go (inl e) (inl h) l = let (i, m, f) = index_of xs q h in absurd (omega (arith, d 0 (suc i) (omega arith) (omega arith) (e ∙ sym f)))
-    go (inl e) (inr h) l = omega (arith, one_most (eqb x q))
+    go (inl e) (inr h) l = omega (arith, one_most (eqb q x))
     go (inr n) h l = omega (arith, count_other q x xs n)
 
 -- any two counts are the same
@@ -64,8 +51,8 @@ counted b bounded = go ((tracing_ends b).ends (trace_start b) started)
       record {
         records = t.black;
         size = refl;
-        distinct = distinct_from t.black (λ q. omega (arith, o.once q, one_most (ltb q (length b.records))));
-        reachable = λ i l. o.reached (get_or t.black i 0) (omega (arith, has_at t.black i l));
+        distinct = λ i k l m e. same_place t.black i k (λ q. omega (arith, o.once q, one_most (ltb q (length b.records)))) l m e;
+        reachable = λ i l. o.reached (get_or t.black i 0) (omega (arith, count_at t.black i l));
         all = λ r y. count_has r t.black (omega (arith, o.once r, ap one_if (lt-ltb r (length b.records) (bounded r y)), done_white b t o e y, ap (count r) e));
       },
     )

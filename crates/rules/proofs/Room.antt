@@ -10,8 +10,10 @@ use Rattle.rules.specs.History.{History, collects, history_call, new_history}
 use Rattle.rules.specs.Promise.{Counted, cycle_steps, LiveAtMost, stop, more, room_for, NeverLacksRoom}
 use Rattle.std.proofs.lemmas.Bool.{cases_lt, true≢false}
 use Rattle.std.proofs.lemmas.List.{length-append}
-use Rattle.rules.proofs.Counting.{count, count_append}
-use Rattle.rules.proofs.Invariant.{Inv, length_upto, placed}
+use Rattle.ring.specs.Sound.{count}
+use Rattle.ring.proofs.Chain.{count_append}
+use Rattle.ring.proofs.Fresh.{length_upto}
+use Rattle.rules.proofs.Invariant.{Inv, placed}
 use Rattle.rules.proofs.Effects.{fill_history, Effect, stay, puts, makes, writes_young, writes_old, fills}
 use Rattle.rules.proofs.Calls.{call_effect}
 use Rattle.rules.proofs.Shading.{shaded_all, shaded_write}

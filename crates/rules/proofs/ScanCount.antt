@@ -7,9 +7,11 @@ use Rattle.rules.specs.Rules.{Barrier, Lawful, Sizes, visit_all, link_at}
 use Rattle.rules.specs.Book.{Book, Reachable}
 use Rattle.rules.specs.History.{History}
 use Rattle.rules.specs.Promise.{Counted, cycle_steps}
-use Rattle.std.proofs.lemmas.Bool.{cases_lt, true≢false, or_right, ne_eqb}
+use Rattle.std.proofs.lemmas.Bool.{cases_lt, true≢false, or_right}
 use Rattle.std.proofs.lemmas.List.{length-append, append_assoc}
-use Rattle.rules.proofs.Counting.{count, one_if, count_append, has_count, count_has, count_self, count_without, length_without, has_self}
+use Rattle.ring.specs.Sound.{count}
+use Rattle.ring.proofs.Chain.{hit_other, count_append, has_count, count_has}
+use Rattle.rules.proofs.Counting.{count_self, count_without, length_without, has_self}
 use Rattle.rules.proofs.Invariant.{Inv}
 use Rattle.rules.proofs.Effects.{put_history, make_history, link_young, link_old, fill_history, Effect, stay, puts, makes, writes_young, writes_old, fills}
 use Rattle.rules.proofs.Shading.{Shaded, shaded_refl, shaded_all, shaded_write, shaded_grey, ring_once}
@@ -28,7 +30,7 @@ fits (q ∷ qs) ys os once distinct own =
     omega (arith, length_without r ys m, fits qs (without r ys) os once (λ s. omega (arith, distinct s)) (λ s k. rest r h m s k (own s (or_right (eqb q s) (has s qs) k))))
   where
     rest : (r : ℕ) → get_or os q None ≡ Some r → has r ys ≡ true → (s : ℕ) → has s qs ≡ true → (t : ℕ) × (get_or os s None ≡ Some t) × (has t ys ≡ true) → (t : ℕ) × (get_or os s None ≡ Some t) × (has t (without r ys) ≡ true)
-    rest r h m s k (t, f, g) = (t, f, count_has t (without r ys) (omega (arith, count_without r t ys m, has_count t ys g, ap one_if (ne_eqb r t apart))))
+    rest r h m s k (t, f, g) = (t, f, count_has t (without r ys) (omega (arith, count_without r t ys m, has_count t ys g, hit_other t r (λ e. apart (sym e)))))
       where
         apart : r ≡ t → ⊥
         apart e = let same : q ≡ s = once q s r h (f ∙ ap Some (sym e)) in omega (arith, distinct q, count_self q qs, has_count q qs (subst (λ x. has x qs ≡ true) (sym same) k))

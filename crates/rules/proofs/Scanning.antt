@@ -9,7 +9,9 @@ use Rattle.rules.specs.History.{History, Holds}
 use Rattle.rules.specs.Promise.{StandsFor}
 use Rattle.std.proofs.lemmas.Bool.{cases_eq, true≢false}
 use Rattle.std.proofs.lemmas.List.{length-append, append_assoc}
-use Rattle.rules.proofs.Counting.{count, one_if, has_count, count_split_last, length_split_last, count_self, count_other}
+use Rattle.ring.specs.Sound.{count}
+use Rattle.ring.proofs.Chain.{has_count}
+use Rattle.rules.proofs.Counting.{one_if, count_split_last, length_split_last, count_self, count_other}
 use Rattle.rules.proofs.Invariant.{Ring, Inv, place_from}
 use Rattle.rules.proofs.Shading.{Shaded, shaded_all, shaded_ring, shade_all_white, ring_once}
 use Rattle.rules.proofs.Evacuating.{has_push_cases, some_is}
@@ -64,7 +66,7 @@ module _ (z : Sizes) (b : Barrier) (lawful : Lawful b) (b₀ : Book) (j : Histor
   abbrev a₂ : Arcs
   a₂ = shade_all ws a₁
 
-  grey_count : (q : ℕ) → count q a₁.grey + one_if (eqb g q) ≡ count q a.grey
+  grey_count : (q : ℕ) → count q a₁.grey + one_if (eqb q g) ≡ count q a.grey
   grey_count q = count_split_last q x xs ∙ ap (count q) (sym grey)
 
   ring₁ : Ring z.slots a₁
@@ -76,17 +78,17 @@ module _ (z : Sizes) (b : Barrier) (lawful : Lawful b) (b₀ : Book) (j : Histor
   ring₂ : Ring z.slots a₂
   ring₂ = shaded_ring shades ring₁
 
-  g_grey : 0 < count g a.grey
-  g_grey = omega (arith, grey_count g, count_self g [])
+  pub scan_grey : 0 < count g a.grey
+  scan_grey = omega (arith, grey_count g, count_self g [])
 
   g_owner : (r : ℕ) × (get_or j.slot_owners g None ≡ Some r)
-  g_owner = owner_of z j inv g (omega (arith, g_grey))
+  g_owner = owner_of z j inv g (omega (arith, scan_grey))
 
   white_once : (q : ℕ) → count q a₁.white ≤ 1
   white_once q = omega (arith, ring_once inv.ring q)
 
   scan_marks : Marks b₀ j.nursery_owners j.slot_owners a₂
-  scan_marks = marks_all ws a₁ (λ k. good_word b₀ j.nursery_owners j.slot_owners (link_at j.store.slots g k) (link_of j.book g_owner.0 k) ((inv.fields (Old g) g_owner.0 g_owner.1).links k) (λ t e. o.book.links g_owner.0 k t (o.marks.marked g g_owner.0 g_owner.1 (omega (arith, g_grey))) e)) marks₁
+  scan_marks = marks_all ws a₁ (λ k. good_word b₀ j.nursery_owners j.slot_owners (link_at j.store.slots g k) (link_of j.book g_owner.0 k) ((inv.fields (Old g) g_owner.0 g_owner.1).links k) (λ t e. o.book.links g_owner.0 k t (o.marks.marked g g_owner.0 g_owner.1 (omega (arith, scan_grey))) e)) marks₁
     where
       marks₁ : Marks b₀ j.nursery_owners j.slot_owners a₁
       marks₁ = record { marked = λ q r h l. o.marks.marked q r h (omega (arith, grey_count q)); unscanned = λ q r h l. o.marks.unscanned q r h (omega (arith, grey_count q)); nursery_new = o.marks.nursery_new }
@@ -136,9 +138,6 @@ module _ (z : Sizes) (b : Barrier) (lawful : Lawful b) (b₀ : Book) (j : Histor
 
   pub scan_black : a₂.black ≡ g ∷ a.black
   scan_black = shades.black
-
-  pub scan_grey : 0 < count g a.grey
-  scan_grey = g_grey
 
   pub scan_less : (q : ℕ) → count q a₂.white + count q a₂.grey ≤ count q a.white + count q a.grey
   scan_less q = omega (arith, shades.grey q, grey_count q)

@@ -1,12 +1,13 @@
 -- Shading moves white slots to grey and does nothing else.
-use Rattle.std.proofs.Common.{◌≡◌, ℕ, zero, suc, ◌+◌, ◌≤◌, Bool, true, false, cond, eqb, ltb, List, [], ◌∷◌, length, get_or, Some, None, Option, refl, ◌∙◌, arith}
+use Rattle.std.proofs.Common.{◌≡◌, ℕ, zero, suc, ◌+◌, ◌≤◌, Bool, true, false, cond, ltb, List, [], ◌∷◌, length, get_or, Some, None, Option, refl, ◌∙◌, arith}
 use Rattle.words.specs.Words.{place_of}
 use Rattle.words.specs.declared.place.Place.{Place}
 use Rattle.words.specs.declared.place.Place.TheVariants.{Young, Old}
 use Rattle.ring.specs.Arcs.{Arcs, has, without, shade_slot}
 use Rattle.rules.specs.Rules.{Barrier, shade, shade_place, shade_all, shade_if, barrier_shades}
-use Rattle.std.proofs.lemmas.Bool.{eq-eqb}
-use Rattle.rules.proofs.Counting.{count, one_if, hasnt_count, count_without, length_without, length_by_counts}
+use Rattle.ring.specs.Sound.{count}
+use Rattle.ring.proofs.Chain.{hit_same, one_most}
+use Rattle.rules.proofs.Counting.{hasnt_count, count_without, length_without, length_by_counts}
 use Rattle.rules.proofs.Invariant.{Ring, total}
 
 pub record Shaded (a a' : Arcs) : Type 0 where
@@ -52,10 +53,6 @@ pub shaded_ring : {S : ℕ} {a a' : Arcs} → Shaded a a' → Ring S a → Ring 
 shaded_ring {S} {a} {a'} s g = record { size = rw (s.free, s.black) (omega (arith, g.size, s.size)); each = λ q. rw (s.free, s.black) (omega (arith, g.each q, s.grey q)) }
 
 -- on a ring nothing stands twice
-one_most : (t : Bool) → one_if t ≤ 1
-one_most true = omega arith
-one_most false = omega arith
-
 pub ring_once : {S : ℕ} {a : Arcs} → Ring S a → (q : ℕ) → total q a ≤ 1
 ring_once {S} {a} g q = omega (arith, g.each q, one_most (ltb q S))
 
@@ -63,11 +60,8 @@ ring_once {S} {a} g q = omega (arith, g.each q, one_most (ltb q S))
 pub shade_slot_white : (q : ℕ) (a : Arcs) → count q a.white ≤ 1 → count q (shade_slot q a).white ≡ 0
 shade_slot_white q a h = go (has q a.white) refl
   where
-    self : one_if (eqb q q) ≡ 1
-    self = rw (eq-eqb q q refl) refl
-
     go : (t : Bool) → has q a.white ≡ t → count q (cond t (record { free = a.free; white = without q a.white; grey = q ∷ a.grey; black = a.black }) a).white ≡ 0
-    go true e = omega (arith, count_without q q a.white e, self)
+    go true e = omega (arith, count_without q q a.white e, hit_same q)
     go false e = hasnt_count q a.white e
 
 pub shade_white : (w q : ℕ) (a : Arcs) → place_of w ≡ Some (Old q) → count q a.white ≤ 1 → count q (shade w a).white ≡ 0

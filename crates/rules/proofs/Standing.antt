@@ -66,9 +66,6 @@ stands_more H K f w (ref r) h = go (place_of w) h
     go None h = h
     go (Some p) h = f p r h
 
-pub stands_nothing : (H : Place → ℕ → Type 0) → StandsForIn H nothing nil
-stands_nothing H = refl
-
 -- a number's word leads nowhere
 number_rest : (v : ℤ) → number_word v % 4 ≡ 1
 number_rest (pos n) = omega arith

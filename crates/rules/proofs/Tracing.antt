@@ -10,8 +10,11 @@ use Rattle.rules.specs.History.{History, Holds, history_call}
 use Rattle.rules.specs.Promise.{ExactAfterFull}
 use Rattle.std.proofs.lemmas.Bool.{cases_eq, cases_lt, eqb-true, lt-ltb}
 use Rattle.std.proofs.lemmas.List.{get_or_past}
-use Rattle.rules.proofs.Counting.{count, one_if, has_count, hasnt_count, count_hasnt, count_other, count_without}
-use Rattle.rules.proofs.Invariant.{Inv, placed, count_upto}
+use Rattle.ring.specs.Sound.{count}
+use Rattle.ring.proofs.Chain.{has_count, count_hasnt, one_most}
+use Rattle.ring.proofs.Fresh.{count_upto}
+use Rattle.rules.proofs.Counting.{one_if, hasnt_count, count_other, count_without}
+use Rattle.rules.proofs.Invariant.{Inv, placed}
 use Rattle.rules.proofs.Shading.{Shaded, shaded_refl, shaded_trans, shaded_slot, shade_slot_white}
 use Rattle.rules.proofs.OpenCycle.{Good, link_of}
 use Rattle.rules.proofs.Runs.{Sound, full_closed₀, full_good}
@@ -43,12 +46,12 @@ word_marks nil t q h = inl h
 word_marks (num v) t q h = inl h
 word_marks (ref r) t q h = go (has r t.white) h
   where
-    at : (u : Bool) → eqb r q ≡ u → 0 < one_if u + count q t.grey → (0 < count q t.grey) ⊎ (ref r ≡ ref q)
-    at true e h = inr (ap ref (eqb-true r q e))
+    at : (u : Bool) → eqb q r ≡ u → 0 < one_if u + count q t.grey → (0 < count q t.grey) ⊎ (ref r ≡ ref q)
+    at true e h = inr (ap ref (sym (eqb-true q r e)))
     at false e h = inl (omega arith)
 
     go : (u : Bool) → 0 < count q (cond u (record { white = without r t.white; grey = r ∷ t.grey; black = t.black }) t).grey → (0 < count q t.grey) ⊎ (ref r ≡ ref q)
-    go true h = at (eqb r q) refl h
+    go true h = at (eqb q r) refl h
     go false h = inl h
 
 all_marks : (ws : List BookWord) (t : TraceState) (q : ℕ) → 0 < count q (trace_all ws t).grey → (0 < count q t.grey) ⊎ ((k : ℕ) × (get_or ws k nil ≡ ref q))
@@ -77,10 +80,6 @@ pub record TraceOk (b : Book) (t : TraceState) : Type 0 where
   pub regs : (i q : ℕ) → get_or b.registers i nil ≡ ref q → count q t.white ≡ 0
   pub links : (g k q : ℕ) → 0 < count g t.black → link_of b g k ≡ ref q → count q t.white ≡ 0
 
-one_most : (t : Bool) → one_if t ≤ 1
-one_most true = omega arith
-one_most false = omega arith
-
 pub traced_ok : {b : Book} {t : TraceState} → Traced b t → TraceOk b t
 traced_ok {b} (started) = record {
   once = λ q. omega (arith, s.grey q, white₀ q, ap (count q) s.black);
@@ -96,7 +95,7 @@ traced_ok {b} (started) = record {
     s = all_shaded b.registers t₀
 
     white₀ : (q : ℕ) → count q (upto 0 (length b.records)) ≡ one_if (ltb q (length b.records))
-    white₀ q = grind (arith, count_upto q 0 (length b.records))
+    white₀ q = count_upto q (length b.records)
 
     go : (q : ℕ) → (0 < 0) ⊎ ((k : ℕ) × (get_or b.registers k nil ≡ ref q)) → Reachable b q
     go q (inl l) = absurd (omega arith)

@@ -1,19 +1,18 @@
 -- The basic tracing algorithm ends, whatever grey record is taken next, and leaves white what is out of reach.
-use Rattle.std.proofs.Common.{◌≡◌, ℕ, zero, suc, ◌+◌, ◌<◌, ◌≤◌, true, ltb, ◌⊎◌, List, [], ◌∷◌, length, refl, ap, inl, inr, arith}
+use Rattle.std.proofs.Common.{◌≡◌, ℕ, zero, suc, ◌+◌, ◌<◌, ◌≤◌, true, ◌⊎◌, List, [], ◌∷◌, length, refl, ap, inl, inr, arith}
 use Rattle.ring.specs.Arcs.{has, without, upto}
 use Rattle.rules.specs.Book.{Book, book_record, Reachable}
 use Rattle.rules.specs.Tracing.{TraceState, trace_step, Traced, went_on, TraceSteps, no_more, one_more, TracingEnds, TracingExact}
 use Rattle.std.proofs.lemmas.Bool.{cases_lt, lt-ltb}
-use Rattle.rules.proofs.Counting.{count, one_if, count_has, has_count, length_by_counts, has_self}
-use Rattle.rules.proofs.Invariant.{count_upto, length_upto}
+use Rattle.ring.specs.Sound.{count}
+use Rattle.ring.proofs.Chain.{count_has, has_count}
+use Rattle.ring.proofs.Fresh.{count_upto, length_upto}
+use Rattle.rules.proofs.Counting.{one_if, length_by_counts, has_self}
 use Rattle.rules.proofs.Tracing.{TraceOk, traced_ok, done_white, trace_black}
 
 -- no more records are black than there are
 black_fits : (b : Book) (t : TraceState) → TraceOk b t → length t.black ≤ length b.records
-black_fits b t o = omega (arith, length_upto 0 (length b.records), length_by_counts t.black (upto 0 (length b.records)) (λ q. omega (arith, o.once q, whole q)))
-  where
-    whole : (q : ℕ) → count q (upto 0 (length b.records)) ≡ one_if (ltb q (length b.records))
-    whole q = grind (arith, count_upto q 0 (length b.records))
+black_fits b t o = omega (arith, length_upto 0 (length b.records), length_by_counts t.black (upto 0 (length b.records)) (λ q. omega (arith, o.once q, count_upto q (length b.records))))
 
 -- each step makes one more record black
 step_black : (b : Book) (g : ℕ) (t : TraceState) → length (trace_step b g t).black ≡ suc (length t.black)

@@ -10,7 +10,8 @@ use Rattle.rules.specs.History.{HoldsIn}
 use Rattle.rules.specs.Promise.{LeadsTo, StandsForIn}
 use Rattle.std.proofs.lemmas.Bool.{cases_eq, cases_lt, true≢false, both_ways, ltb-true, ltb-false, lt-ltb, eqb-true, or_right, or_cases}
 use Rattle.std.proofs.lemmas.List.{length-append, length-set, get_or-set_same, get_or-set_other, get_or_past, get_or_append_left, drop_more}
-use Rattle.rules.proofs.Counting.{count, has_self}
+use Rattle.ring.specs.Sound.{count}
+use Rattle.rules.proofs.Counting.{has_self}
 use Rattle.rules.proofs.Standing.{getD_set_cases, link_at_cases, set_left, place_of_slot, place_of_number}
 use Rattle.rules.proofs.Invariant.{Match, Fields, Noted}
 use Rattle.rules.proofs.Shading.{shaded_if, shaded_ring, shade_white, ring_once}
