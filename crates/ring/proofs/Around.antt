@@ -6,8 +6,9 @@ use Rattle.std.proofs.lemmas.Bool.{cases_lt, eq-eqb, ne_eqb}
 use Rattle.ring.specs.Arcs.{Arcs, ring_of, Linked}
 use Rattle.ring.specs.Calls.{first_or, next_in, next_around}
 use Rattle.ring.specs.Sound.{Tables, hit, count, Chained, Ringed, Starts, arcs, Holds}
+use Rattle.ring.specs.View.{Fine}
 use Rattle.ring.proofs.Chain.{hit_same, count_append, count_at, split_at, rotate, starts_next}
-use Rattle.ring.proofs.Held.{Sound, held}
+use Rattle.ring.proofs.Held.{held}
 use Rattle.ring.proofs.Steps.{once, inside, there}
 
 -- ---- lists
@@ -71,7 +72,7 @@ module _ (t : Tables) (a : Arcs) (h : Holds t a) where
         back = λ q l. let c = turned q l in undone (λ x. get_or t.next x 0) (λ x. get_or t.prev x 0) q (c.1 ++ c.0) c.3;
       }
 
-pub tables_linked : (t : Tables) → Sound t → Linked t.next t.prev t.slots (ring_of (arcs t))
+pub tables_linked : (t : Tables) → Fine t → Linked t.next t.prev t.slots (ring_of (arcs t))
 tables_linked t s = linked_arcs t (arcs t) (held t s)
 
 -- ---- the slot after another
@@ -99,7 +100,7 @@ next_in_none d q (x ∷ xs) z =
     let ne : x ≡ q → ⊥ = λ e. omega (arith, hit_same q, ap (λ v. hit q v) e) in
     rw (ne_eqb x q ne) (next_in_none d q xs (omega arith))
 
-module _ (t : Tables) (s : Sound t) (q : ℕ) where
+module _ (t : Tables) (s : Fine t) (q : ℕ) where
   pub next_some : q < t.slots → Some (get_or t.next q 0) ≡ next_around q (arcs t)
   next_some l =
       let a = arcs t in

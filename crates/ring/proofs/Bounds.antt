@@ -4,8 +4,9 @@ use Rattle.std.proofs.lemmas.List.{length-append, get_or-set_same, get_or-set_ot
 use Rattle.std.proofs.lemmas.Bool.{cases_eq}
 use Rattle.ring.specs.Arcs.{ring_of}
 use Rattle.ring.specs.Sound.{Tables, count, Ringed, arcs}
+use Rattle.ring.specs.View.{Fine}
 use Rattle.ring.proofs.Chain.{count_append, split_at, rotate, starts_next, lastOf_in, chained_ends}
-use Rattle.ring.proofs.Held.{Sound, held}
+use Rattle.ring.proofs.Held.{held}
 use Rattle.ring.proofs.Carry.{starts_in}
 use Rattle.ring.proofs.Steps.{inside, there, tally}
 
@@ -18,7 +19,7 @@ pub ring_prev_in : (n p : ℕ → ℕ) (x : ℕ) (xs : List ℕ) → Ringed n p 
 unfolding Ringed
 ring_prev_in n p x xs r = subst (λ k. 0 < count k (x ∷ xs)) (sym (chained_ends n p x xs x r).1) (lastOf_in x xs)
 
-module _ (t : Tables) (s : Sound t) where
+module _ (t : Tables) (s : Fine t) where
   pub in_next : (x : ℕ) → x < t.slots → x < length t.next
   in_next x l = omega (arith, (held t s).next_long)
 

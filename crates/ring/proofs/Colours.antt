@@ -7,8 +7,9 @@ use Rattle.ring.specs.Arcs.{Arcs, has, ring_of}
 use Rattle.ring.specs.Calls.{colour_in}
 use Rattle.ring.specs.Laws.{Stands, OneArc}
 use Rattle.ring.specs.Sound.{Tables, stamp_colour, code, stamp_code, code_at, count, Coloured, arcs, Holds}
+use Rattle.ring.specs.View.{Fine}
 use Rattle.ring.proofs.Chain.{count_has, count_hasnt}
-use Rattle.ring.proofs.Held.{Sound, held}
+use Rattle.ring.proofs.Held.{held}
 use Rattle.ring.proofs.Steps.{inside, there, tally}
 
 -- ---- the colour with a number
@@ -103,12 +104,12 @@ one_arc n q a Grey l p = (l, p)
 one_arc n q a Black l p = (l, p)
 
 -- A colour that the stamp of a slot means.
-pub colour_some : (t : Tables) → Sound t → (q : ℕ) → q < t.slots → (c : Colour) → c ≡ stamp_colour t.cycle t.epoch (get_or t.stamp q 0) → (Some c ≡ colour_in q (arcs t)) × OneArc t.slots q (arcs t) (Some c)
+pub colour_some : (t : Tables) → Fine t → (q : ℕ) → q < t.slots → (c : Colour) → c ≡ stamp_colour t.cycle t.epoch (get_or t.stamp q 0) → (Some c ≡ colour_in q (arcs t)) × OneArc t.slots q (arcs t) (Some c)
 colour_some t s q l c e =
     let p : Placed q (arcs t) c = subst (Placed q (arcs t)) (sym e) (slot_placed t (arcs t) (held t s) q l) in
     (colour_placed q (arcs t) c p, one_arc t.slots q (arcs t) c l p)
 
-pub colour_none : (t : Tables) → Sound t → (q : ℕ) → t.slots ≤ q → (None ≡ colour_in q (arcs t)) × OneArc t.slots q (arcs t) None
+pub colour_none : (t : Tables) → Fine t → (q : ℕ) → t.slots ≤ q → (None ≡ colour_in q (arcs t)) × OneArc t.slots q (arcs t) None
 colour_none t s q l =
     let p = nowhere t (arcs t) (held t s) q l in
     ((rw (p.in_free, p.in_white, p.in_grey, p.in_black)), (l, p))

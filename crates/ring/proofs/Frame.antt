@@ -3,7 +3,7 @@ use Rattle.std.proofs.Common.{◌≡◌, ℕ, ◌<◌, List, set, refl, ◌∙�
 use Rattle.std.proofs.lemmas.List.{length-set, drop-set-lt}
 use Rattle.ring.specs.Arcs.{Arcs}
 use Rattle.ring.specs.Sound.{Tables}
-use Rattle.ring.specs.View.{arcs_of, is_open_of, TablesHold, Fine, Kept, Beyond, Leaves}
+use Rattle.ring.specs.View.{arcs_of, is_open_of, Fine, Kept, Beyond, Leaves}
 use Rattle.ring.proofs.Around.{tables_linked}
 
 -- A table that stays, and one with a write at a slot.
@@ -15,7 +15,7 @@ set_kept n was is i v l k = record { rest = drop-set-lt n is i v l ∙ k.rest; l
 
 -- What a call leaves: tables that hold the arcs a.
 pub left_as : (t u : Tables) (a : Arcs) → Fine u → arcs_of u ≡ a → u.slots ≡ t.slots → Beyond t u → Leaves t u a u.cycle
-unfolding arcs_of TablesHold
+unfolding arcs_of
 left_as t u a s e n b = record { arcs_are = e; open_is = refl; slots_kept = n; linked = tables_linked u s; beyond = b }
 
 -- A ring that a call leaves as it is.

@@ -4,8 +4,9 @@ use Rattle.std.proofs.lemmas.List.{append-nil}
 use Rattle.std.proofs.lemmas.Bool.{cases_eq, cases_lt, eq-eqb, ne_eqb, lt-ltb, le-ltb, both_ways}
 use Rattle.ring.specs.Arcs.{upto, new_arcs}
 use Rattle.ring.specs.Sound.{Tables, hit, count, Chained, Ringed, Starts, code_at, Coloured, arcs, Holds}
+use Rattle.ring.specs.View.{Fine}
 use Rattle.ring.proofs.Chain.{hit_same, hit_other}
-use Rattle.ring.proofs.Held.{Sound, coloured_nil, settled, sound_from, stamp_code_0}
+use Rattle.ring.proofs.Held.{coloured_nil, settled, sound_from, stamp_code_0}
 
 pub length_upto : (a n : ℕ) → length (upto a n) ≡ n
 length_upto a zero = refl
@@ -91,5 +92,5 @@ module _ (nx pv st : List ℕ) (n e : ℕ) (some : 0 < e) (room : e + 1 < 2 ^ 32
         shut = λ e. refl;
       }
 
-  pub new_done : Sound (blank nx pv st n e) × (arcs (blank nx pv st n e) ≡ new_arcs n)
+  pub new_done : Fine (blank nx pv st n e) × (arcs (blank nx pv st n e) ≡ new_arcs n)
   new_done = (sound_from (blank nx pv st n e) (new_arcs n) new_held, settled (blank nx pv st n e) (new_arcs n) new_held)

@@ -7,6 +7,7 @@ use Rattle.std.proofs.lemmas.Bool.{cases_eq, cases_lt, eq-eqb, ne_eqb}
 use Rattle.ring.specs.declared.arcs.Colour.TheVariants.{Free, White, Grey, Black}
 use Rattle.ring.specs.Arcs.{Arcs, ring_of}
 use Rattle.ring.specs.Sound.{Tables, stamp_colour, code, stamp_code, walk, count, code_at, Coloured, arc, arcs, Holds}
+use Rattle.ring.specs.View.{TablesHold, Fine}
 use Rattle.ring.proofs.Single.{holds_prop}
 use Rattle.ring.proofs.Chain.{hit_same, hit_other, count_append, walk_ringed}
 
@@ -107,10 +108,6 @@ module _ (o : Bool) (e : ℕ) (s : List ℕ) where
 
 -- ---- the arcs that tables hold are those read off them
 
--- The tables hold the arcs that are read off them.
-abbrev pub Sound : Tables → Type 0
-Sound t = ∥ Holds t (arcs t) ∥₁
-
 pub settled : (t : Tables) (a : Arcs) → Holds t a → arcs t ≡ a
 unfolding arcs arc
 settled t a h =
@@ -141,8 +138,10 @@ settled t a h =
     p3 : walk t.next t.slots t.head ≡ ring_of a → keep 3 (walk t.next t.slots t.head) ≡ a.black
     p3 w = ap (keep 3) w ∙ (parts 3 ∙ rw (none 0 3 a.free (λ d. omega arith) h.frees, none 1 3 a.white (λ d. omega arith) h.whites, none 2 3 a.grey (λ d. omega arith) h.greys, all 3 a.black h.blacks))
 
-pub sound_from : (t : Tables) (a : Arcs) → Holds t a → Sound t
+pub sound_from : (t : Tables) (a : Arcs) → Holds t a → Fine t
+unfolding TablesHold
 sound_from t a h = ∣ subst (Holds t) (sym (settled t a h)) h ∣₁
 
-pub held : (t : Tables) → Sound t → Holds t (arcs t)
+pub held : (t : Tables) → Fine t → Holds t (arcs t)
+unfolding TablesHold
 held t s = ∥∥₁_elim s (holds_prop t (arcs t)) (λ h. h)

@@ -6,8 +6,9 @@ use Rattle.std.specs.Bool.{then_some}
 use Rattle.ring.specs.Arcs.{Arcs, ring_of, scan_from}
 use Rattle.ring.specs.Calls.{left_by, moved_slot, scanned_slot, scanned_arcs, is_none}
 use Rattle.ring.specs.Sound.{Tables, count, Ringed, Starts, code_at, Coloured, arcs, Holds}
+use Rattle.ring.specs.View.{Fine}
 use Rattle.ring.proofs.Chain.{hit_same, count_append, rotate, last_of, split_push}
-use Rattle.ring.proofs.Held.{Sound, stamp_code_black, coloured_cons, coloured_left, coloured_right, coloured_head, coloured_painted, code_at_painted, settled, sound_from, held}
+use Rattle.ring.proofs.Held.{stamp_code_black, coloured_cons, coloured_left, coloured_right, coloured_head, coloured_painted, code_at_painted, settled, sound_from, held}
 use Rattle.ring.proofs.Carry.{lastD, lastD_append, lastD_in, back_of}
 use Rattle.ring.proofs.Steps.{once, inside, tally, stamped_painted, Off, off_coloured, off_append}
 
@@ -130,7 +131,7 @@ scan_held t a h x e =
     let same : a ≡ split = λ i. record { free = a.free; white = a.white; grey = r.1 i; black = a.black } in
     subst (Holds (scanned_at t x)) (sym (ap scanned_arcs same ∙ ap (left_by split) (scan_push r.0 x split))) (scan_lists t x a.free a.white r.0 a.black (subst (Holds t) same h))
 
-module _ (t : Tables) (s : Sound t) where
+module _ (t : Tables) (s : Fine t) where
   pub last_grey_some : 0 < t.slots → code_at t.cycle t.epoch t.stamp (get_or t.prev t.black 0) ≡ 2 → Some (get_or t.prev t.black 0) ≡ scanned_slot (arcs t)
   last_grey_some n own =
       let a = arcs t in
@@ -150,7 +151,7 @@ module _ (t : Tables) (s : Sound t) where
       let r = last_is_scanned a x e in
       inside t a (held t s) x (omega (arith, tally t a (held t s) x, ap (count x) r.1, count_append x r.0 (x ∷ []), hit_same x))
 
-  pub scan_done : (x : ℕ) → Some x ≡ scanned_slot (arcs t) → Sound (scanned_at t x) × (arcs (scanned_at t x) ≡ scanned_arcs (arcs t))
+  pub scan_done : (x : ℕ) → Some x ≡ scanned_slot (arcs t) → Fine (scanned_at t x) × (arcs (scanned_at t x) ≡ scanned_arcs (arcs t))
   scan_done x e =
       let h = scan_held t (arcs t) (held t s) x e in
       (sound_from (scanned_at t x) (scanned_arcs (arcs t)) h, settled (scanned_at t x) (scanned_arcs (arcs t)) h)

@@ -4,8 +4,9 @@ use Rattle.std.proofs.lemmas.List.{append-nil, length-append, length-set}
 use Rattle.std.proofs.lemmas.Bool.{eq-eqb, ne_eqb, cond-true, cond-false}
 use Rattle.ring.specs.Arcs.{Arcs, has, without, ring_of, shade_slot}
 use Rattle.ring.specs.Sound.{Tables, hit, count, Ringed, Starts, Coloured, arcs, Holds}
+use Rattle.ring.specs.View.{Fine}
 use Rattle.ring.proofs.Chain.{hit_same, count_append, split_at, rotate, count_has, has_count, without_at, last_of, lastOf_in}
-use Rattle.ring.proofs.Held.{Sound, stamp_code_grey, coloured_cons, coloured_left, coloured_right, coloured_append, coloured_tail, coloured_painted, code_at_painted, settled, sound_from, held}
+use Rattle.ring.proofs.Held.{stamp_code_grey, coloured_cons, coloured_left, coloured_right, coloured_append, coloured_tail, coloured_painted, code_at_painted, settled, sound_from, held}
 use Rattle.ring.proofs.Carry.{lastD, lastD_append, back_of, behind, carry, nx2, pv2}
 use Rattle.ring.proofs.Steps.{once, inside, tally, stamped_painted}
 
@@ -220,10 +221,10 @@ module _ (t : Tables) (a : Arcs) (h : Holds t a) (q : ℕ) (white : has q a.whit
 pub shade_not : (q : ℕ) (a : Arcs) → has q a.white ≡ false → a ≡ shade_slot q a
 shade_not q a z = sym (cond-false (has q a.white) (record { free = a.free; white = without q a.white; grey = q ∷ a.grey; black = a.black }) a z)
 
-pub white_slot : (t : Tables) → Sound t → (q : ℕ) → has q (arcs t).white ≡ true → q < t.slots
+pub white_slot : (t : Tables) → Fine t → (q : ℕ) → has q (arcs t).white ≡ true → q < t.slots
 white_slot t s q white = white_in t (arcs t) (held t s) q white
 
-pub shade_done_near : (t : Tables) → Sound t → (q : ℕ) → has q (arcs t).white ≡ true → get_or t.prev t.grey 0 ≡ q → Sound (shaded_near t q) × (arcs (shaded_near t q) ≡ shade_slot q (arcs t))
+pub shade_done_near : (t : Tables) → Fine t → (q : ℕ) → has q (arcs t).white ≡ true → get_or t.prev t.grey 0 ≡ q → Fine (shaded_near t q) × (arcs (shaded_near t q) ≡ shade_slot q (arcs t))
 shade_done_near t s q white e =
     let r = near_held t (arcs t) (held t s) q white e in
     (sound_from (shaded_near t q) (shade_slot q (arcs t)) r, settled (shaded_near t q) (shade_slot q (arcs t)) r)
@@ -232,7 +233,7 @@ shade_done_near t s q white e =
 abbrev pub carried : Tables → ℕ → ℕ → ℕ → ℕ → Tables
 carried t q z hd bk = record { next = nx2 t.next t.prev q z; prev = pv2 t.next t.prev q z; stamp = set t.stamp q (t.epoch + 1); slots = t.slots; head = hd; grey = q; black = bk; epoch = t.epoch; cycle = t.cycle }
 
-pub shade_done_far : (t : Tables) → Sound t → (q hd bk : ℕ) → has q (arcs t).white ≡ true → (get_or t.prev t.grey 0 ≡ q → ⊥) → hd ≡ cond (eqb t.head q) (get_or t.next q 0) t.head → bk ≡ cond (eqb t.black q) (get_or t.next q 0) t.black → Sound (carried t q (get_or t.prev t.grey 0) hd bk) × (arcs (carried t q (get_or t.prev t.grey 0) hd bk) ≡ shade_slot q (arcs t))
+pub shade_done_far : (t : Tables) → Fine t → (q hd bk : ℕ) → has q (arcs t).white ≡ true → (get_or t.prev t.grey 0 ≡ q → ⊥) → hd ≡ cond (eqb t.head q) (get_or t.next q 0) t.head → bk ≡ cond (eqb t.black q) (get_or t.next q 0) t.black → Fine (carried t q (get_or t.prev t.grey 0) hd bk) × (arcs (carried t q (get_or t.prev t.grey 0) hd bk) ≡ shade_slot q (arcs t))
 shade_done_far t s q hd bk white ne eh eb =
     let z = get_or t.prev t.grey 0 in
     let r = far_held t (arcs t) (held t s) q white ne in

@@ -6,8 +6,9 @@ use Rattle.std.specs.Bool.{then_some}
 use Rattle.ring.specs.Arcs.{Arcs, ring_of, take_from}
 use Rattle.ring.specs.Calls.{moved_slot, taken_slot, taken_arcs, first_of}
 use Rattle.ring.specs.Sound.{Tables, count, Ringed, Starts, code_at, Coloured, arcs, Holds}
+use Rattle.ring.specs.View.{Fine}
 use Rattle.ring.proofs.Chain.{hit_same, count_append, rotate, starts_next}
-use Rattle.ring.proofs.Held.{Sound, stamp_code_black, coloured_nil, coloured_cons, coloured_head, coloured_tail, coloured_append, coloured_painted, code_at_painted, settled, sound_from, held}
+use Rattle.ring.proofs.Held.{stamp_code_black, coloured_nil, coloured_cons, coloured_head, coloured_tail, coloured_append, coloured_painted, code_at_painted, settled, sound_from, held}
 use Rattle.ring.proofs.Carry.{starts_in}
 
 -- ---- what the arcs say of single slots
@@ -154,7 +155,7 @@ take_none a e =
     let same : a ≡ record { free = []; white = a.white; grey = a.grey; black = a.black } = λ i. record { free = e i; white = a.white; grey = a.grey; black = a.black } in
     same ∙ sym (ap taken_arcs same)
 
-module _ (t : Tables) (s : Sound t) where
+module _ (t : Tables) (s : Fine t) where
   -- What the colour of the first slot says.
   pub head_by : 0 < t.slots → (b : Bool) → b ≡ eqb (code_at t.cycle t.epoch t.stamp t.head) 0 → then_some b t.head ≡ first_of (arcs t).free
   head_by n true e = free_first t (arcs t) (held t s) n (eqb-true _ _ (sym e))
@@ -166,7 +167,7 @@ module _ (t : Tables) (s : Sound t) where
   pub first_free_in : (x : ℕ) → Some x ≡ taken_slot (arcs t) → x < t.slots
   first_free_in x e = free_in t (arcs t) (held t s) x (e ∙ taken_first (arcs t))
 
-  pub take_done : (x : ℕ) → Some x ≡ taken_slot (arcs t) → Sound (took t x) × (arcs (took t x) ≡ taken_arcs (arcs t))
+  pub take_done : (x : ℕ) → Some x ≡ taken_slot (arcs t) → Fine (took t x) × (arcs (took t x) ≡ taken_arcs (arcs t))
   take_done x e =
       let h = take_held t (arcs t) (held t s) x (e ∙ taken_first (arcs t)) in
       (sound_from (took t x) (taken_arcs (arcs t)) h, settled (took t x) (taken_arcs (arcs t)) h)

@@ -8,9 +8,10 @@ use Rattle.ring.specs.declared.arcs.Lengths.{Lengths}
 use Rattle.ring.specs.Calls.{lengths_of}
 use Rattle.ring.specs.Count.{one_more}
 use Rattle.ring.specs.Sound.{Tables, stamp_colour, code, stamp_code, walk, code_at, arc, arcs}
+use Rattle.ring.specs.View.{Fine}
 use Rattle.ring.proofs.Bounds.{head_in, links_in}
 use Rattle.ring.proofs.Chain.{one_most}
-use Rattle.ring.proofs.Held.{Sound, held}
+use Rattle.ring.proofs.Held.{held}
 
 unfoldable pub step : List ℕ → ℕ → ℕ → ℕ
 step n zero h = h
@@ -70,11 +71,11 @@ pub record Told (t : Tables) (i x : ℕ) (l : Lengths) : Type 0 where
   pub grey_is : l.grey ≡ seen t i 2
   pub black_is : l.black ≡ seen t i 3
 
-pub told_none : (t : Tables) → Sound t → Told t 0 t.head (record { free = 0; white = 0; grey = 0; black = 0 })
+pub told_none : (t : Tables) → Fine t → Told t 0 t.head (record { free = 0; white = 0; grey = 0; black = 0 })
 unfolding step
 told_none t s = record { at = refl; low = head_in t s; free_is = sym (seen_none t 0); white_is = sym (seen_none t 1); grey_is = sym (seen_none t 2); black_is = sym (seen_none t 3) }
 
-pub told_more : (t : Tables) → Sound t → (i x : ℕ) (l l' : Lengths) (c : Colour) → Told t i x l → i < t.slots → c ≡ stamp_colour t.cycle t.epoch (get_or t.stamp x 0) → l' ≡ one_more c l → Told t (i + 1) (get_or t.next x 0) l'
+pub told_more : (t : Tables) → Fine t → (i x : ℕ) (l l' : Lengths) (c : Colour) → Told t i x l → i < t.slots → c ≡ stamp_colour t.cycle t.epoch (get_or t.stamp x 0) → l' ≡ one_more c l → Told t (i + 1) (get_or t.next x 0) l'
 unfolding code_at stamp_code
 told_more t s i x l l' c told lt e e' =
     let hit : (k : ℕ) → one_if c k ≡ cond (eqb (code_at t.cycle t.epoch t.stamp (step t.next i t.head)) k) 1 0 = λ k. ap (λ z. one_if z k) e ∙ ap (λ z. cond (eqb (code_at t.cycle t.epoch t.stamp z) k) 1 0) told.at in
@@ -101,6 +102,6 @@ told_all t i x l told e =
     λ j. record { free = f j; white = w j; grey = g j; black = b j }
 
 -- The four lengths add up to the number of slots.
-pub told_sum : (t : Tables) → Sound t → (l : Lengths) → l ≡ lengths_of (arcs t) → l.free + l.white + l.grey + l.black ≡ t.slots
+pub told_sum : (t : Tables) → Fine t → (l : Lengths) → l ≡ lengths_of (arcs t) → l.free + l.white + l.grey + l.black ≡ t.slots
 told_sum t s l e =
     omega (arith, ap (λ z. z.free) e, ap (λ z. z.white) e, ap (λ z. z.grey) e, ap (λ z. z.black) e, simp length-append at (held t s).sized)

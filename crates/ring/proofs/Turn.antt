@@ -6,8 +6,9 @@ use Rattle.ring.specs.declared.arcs.Colour.TheVariants.{Free, White}
 use Rattle.ring.specs.Arcs.{Arcs, open_arcs, close_arcs}
 use Rattle.ring.specs.Calls.{is_none, may_close, closed_arcs, still_open}
 use Rattle.ring.specs.Sound.{Tables, stamp_colour, code, stamp_code, count, code_at, Coloured, arcs, Holds}
+use Rattle.ring.specs.View.{Fine}
 use Rattle.ring.proofs.Chain.{count_append}
-use Rattle.ring.proofs.Held.{Sound, stamp_code_3, stamp_code_2, stamp_code_1, stamp_code_0, coloured_nil, settled, sound_from, held}
+use Rattle.ring.proofs.Held.{stamp_code_3, stamp_code_2, stamp_code_1, stamp_code_0, coloured_nil, settled, sound_from, held}
 use Rattle.ring.proofs.Steps.{inside, tally}
 
 -- ---- what a colour says of its stamp
@@ -71,7 +72,7 @@ open_lists t f b room h =
       shut = λ e. absurd (true≢false e);
     }
 
-pub open_done : (t : Tables) → Sound t → t.cycle ≡ false → t.epoch + 3 < 2 ^ 32 → Sound (opens t) × (arcs (opens t) ≡ open_arcs (arcs t))
+pub open_done : (t : Tables) → Fine t → t.cycle ≡ false → t.epoch + 3 < 2 ^ 32 → Fine (opens t) × (arcs (opens t) ≡ open_arcs (arcs t))
 open_done t s e room =
     let a = arcs t in
     let n = shut_arcs t a (held t s) e in
@@ -114,7 +115,7 @@ renew_held t st a h e long hs =
       shut = h.shut;
     }
 
-pub renew_done : (t : Tables) (st : List ℕ) → Sound t → t.cycle ≡ false → t.slots ≤ length st → ((k : ℕ) → k < t.slots → get_or st k 0 ≡ cond (eqb (get_or t.stamp k 0) t.epoch) 2 0) → Sound (renewed t st) × (arcs (renewed t st) ≡ arcs t)
+pub renew_done : (t : Tables) (st : List ℕ) → Fine t → t.cycle ≡ false → t.slots ≤ length st → ((k : ℕ) → k < t.slots → get_or st k 0 ≡ cond (eqb (get_or t.stamp k 0) t.epoch) 2 0) → Fine (renewed t st) × (arcs (renewed t st) ≡ arcs t)
 renew_done t st s e long hs =
     let h = renew_held t st (arcs t) (held t s) e long hs in
     (sound_from (renewed t st) (arcs t) h, settled (renewed t st) (arcs t) h)
@@ -154,7 +155,7 @@ none_from : (xs : List ℕ) → is_none xs ≡ true → xs ≡ []
 none_from [] e = refl
 none_from (x ∷ xs) e = absurd (both_ways false refl e)
 
-pub close_done : (t : Tables) → Sound t → t.cycle ≡ true → is_none (arcs t).grey ≡ true → Sound (closes t) × (true ≡ may_close t.cycle (arcs t)) × (arcs (closes t) ≡ closed_arcs t.cycle (arcs t)) × (false ≡ still_open t.cycle (arcs t))
+pub close_done : (t : Tables) → Fine t → t.cycle ≡ true → is_none (arcs t).grey ≡ true → Fine (closes t) × (true ≡ may_close t.cycle (arcs t)) × (arcs (closes t) ≡ closed_arcs t.cycle (arcs t)) × (false ≡ still_open t.cycle (arcs t))
 close_done t s o z =
     let a = arcs t in
     let e = none_from a.grey z in

@@ -1,11 +1,10 @@
 use Rattle.std.proofs.Common.{◌≡◌, ℕ, ◌+◌, ◌-◌, ◌<◌, cond, eqb, get_or, refl, arith, rules}
-use Rattle.ring.specs.View.{arcs_of, TablesHold}
+use Rattle.ring.specs.View.{arcs_of}
 use Rattle.ring.proofs.Around.{tables_linked}
 use Rattle.ring.proofs.Fresh.{blank, new_done}
 use Rattle.ring.proofs.ring.Ring.begin.Goals as goal
 
 pub invariant_of-result : goal.invariant_of-result
-unfolding TablesHold
 invariant_of-result c =
     let linked : (k : ℕ) → k < c.args.slots → get_or c.set_each.new.table k 0 ≡ cond (eqb (k + 1) c.args.slots) 0 (k + 1) = λ k l. let p = c.set_each.ensures.set k l in search rules in
     let back : (k : ℕ) → k < c.args.slots → get_or c.set_each-2.new.table k 0 ≡ cond (eqb k 0) (c.args.slots - 1) (k - 1) = λ k l. let p = c.set_each-2.ensures.set k l in search rules in
@@ -15,7 +14,7 @@ invariant_of-result c =
     r.0
 
 pub returns : goal.returns
-unfolding arcs_of TablesHold
+unfolding arcs_of
 returns c =
     let linked : (k : ℕ) → k < c.args.slots → get_or c.set_each.new.table k 0 ≡ cond (eqb (k + 1) c.args.slots) 0 (k + 1) = λ k l. let p = c.set_each.ensures.set k l in search rules in
     let back : (k : ℕ) → k < c.args.slots → get_or c.set_each-2.new.table k 0 ≡ cond (eqb k 0) (c.args.slots - 1) (k - 1) = λ k l. let p = c.set_each-2.ensures.set k l in search rules in

@@ -1,23 +1,23 @@
 use Rattle.std.proofs.Common.{refl}
 use Rattle.ring.specs.Inside.{tables}
-use Rattle.ring.specs.View.{arcs_of, TablesHold}
+use Rattle.ring.specs.View.{arcs_of}
 use Rattle.ring.proofs.Bounds.{in_stamp}
 use Rattle.ring.proofs.Frame.{same_kept, set_kept, left_as}
 use Rattle.ring.proofs.Scan.{scanned_at, last_grey_in, scan_done}
 use Rattle.ring.proofs.ring.Ring.blacken_last.Goals as goal
 
 pub bounds-self-inside-x : goal.bounds-self-inside-x
-unfolding arcs_of TablesHold
+unfolding arcs_of
 bounds-self-inside-x c =
     let t = tables c.self.inside in
     in_stamp t c.self.invariant c.args.x (last_grey_in t c.self.invariant c.args.x (rw (← c.self.view_is) at c.requires).last)
 
 pub invariant_of-self : goal.invariant_of-self
-unfolding arcs_of TablesHold
+unfolding arcs_of
 invariant_of-self c = (scan_done (tables c.self.inside) c.self.invariant c.args.x (rw (← c.self.view_is) at c.requires).last).0
 
 pub returns : goal.returns
-unfolding arcs_of TablesHold
+unfolding arcs_of
 returns c =
     let t = tables c.self.inside in
     let x = c.args.x in

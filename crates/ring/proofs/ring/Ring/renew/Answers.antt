@@ -1,17 +1,16 @@
 use Rattle.std.proofs.Common.{◌≡◌, ℕ, ◌<◌, cond, eqb, get_or, refl, subst, arith, rules}
 use Rattle.ring.specs.Inside.{tables}
-use Rattle.ring.specs.View.{arcs_of, Leaves, TablesHold}
+use Rattle.ring.specs.View.{arcs_of, Leaves}
 use Rattle.ring.proofs.Frame.{same_kept, left_as}
 use Rattle.ring.proofs.Held.{held}
 use Rattle.ring.proofs.Turn.{renewed, renew_done}
 use Rattle.ring.proofs.ring.Ring.renew.Goals as goal
 
 pub set_each-requires-clause-room : goal.set_each-requires-clause-room
-unfolding TablesHold
 set_each-requires-clause-room c = (held (tables c.self.inside) c.self.invariant).stamp_long
 
 pub invariant_of-self : goal.invariant_of-self
-unfolding arcs_of TablesHold
+unfolding arcs_of
 invariant_of-self c =
     let t = tables c.self.inside in
     let st = c.set_each.new.table in
@@ -20,7 +19,7 @@ invariant_of-self c =
     (renew_done t st c.self.invariant (rw (← c.self.view_is) at c.requires).shut (omega (arith, long)) renewed_each).0
 
 pub returns : goal.returns
-unfolding arcs_of TablesHold
+unfolding arcs_of
 returns c =
     let t = tables c.self.inside in
     let st = c.set_each.new.table in
