@@ -6,8 +6,9 @@ use crate::table::RegisterTable;
 use kinds::barrier::Barrier;
 use kinds::fault::StoreFault;
 
-// The table has a place for each register. The limits stand beside the status, all 0 where the heap is closed: with a
-// `Result` of them, what is said of the table and of each register would have a case more.
+// The table is the caller's, since a store takes no memory of its own, and has a place for each register. The limits stand
+// beside the status, all 0 where the heap is closed: with a `Result` of them, what is said of the table and of each
+// register would have a case more.
 #[derive(Drop)]
 pub struct Heap<'a, B> {
     registers: &'a mut [u32],

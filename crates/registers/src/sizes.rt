@@ -28,7 +28,7 @@ fn size(v: i64, most: u32) -> Result<u32, StoreFault>
 {
     u32::try_from(v)
         .ok()
-        .filter(|n| 1 <= *n && *n <= most)
+        .filter(|n| (1..=most).contains(n))
         .ok_or(StoreFault::SizeOutOfRange)
 }
 
