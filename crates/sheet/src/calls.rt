@@ -29,27 +29,16 @@ impl<B: Barrier> SheetStore<RegisterSheet> for Store<'_, B> {
         ensures state { running B.answers (view self.new.heap) ≡ state_after_order rules (running B.answers (view self.old.heap)) (order_of order request) }
         ensures reply { (n : ℕ) → row_of_result n result ≡ row_of_reply n (reply_to_order rules (running B.answers (view self.old.heap)) (order_of order request)) }
     {
-        match request.command {
+        let Request { command, a, b, .. } = request;
+        match command {
             Command::OpenSnapshot | Command::OpenUpdate => Err(SheetFault::OutOfTurn),
-            Command::Load => {
-                self.load(request.a, request.b)?;
-                Ok(Values::none())
-            }
-            Command::Empty => {
-                self.empty(request.a)?;
-                Ok(Values::none())
-            }
-            Command::Copy => {
-                self.copy(request.a, request.b)?;
-                Ok(Values::none())
-            }
-            Command::Same => Ok(Values::flag(self.same(request.a, request.b)?)),
-            Command::Look => {
-                let seen = self.look(request.a)?;
-                Ok(Values {
-                    numbers: numbers_of(seen),
-                })
-            }
+            Command::Load => Ok(self.load(a, b)?.into()),
+            Command::Empty => Ok(self.empty(a)?.into()),
+            Command::Copy => Ok(self.copy(a, b)?.into()),
+            Command::Same => Ok(self.same(a, b)?.into()),
+            Command::Look => Ok(Values {
+                numbers: numbers_of(self.look(a)?),
+            }),
         }
     }
 }
