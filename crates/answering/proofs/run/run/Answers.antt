@@ -7,7 +7,9 @@ use Rattle.answering.proofs.run.run.Goals as goal
 pub loop-text-smaller : goal.loop-text-smaller
 loop-text-smaller g c =
     let rules = g.T.Sheet.rules in
-    let same = answered_on rules _ c.in_ok-answer_waiting.field-0 _ _ c.if-branch.false c.in_ok-answer_waiting.ensures in
+    let m = c.next_line.new.self in
+    let all = vec_items m.out ++ written_for rules waiting m.number (c.in-Some.text.now ∷ lines m.rest.now) in
+    let same = answered_on rules all c.in_ok-answer_waiting.field-0 m c.answer_waiting.new.session c.if-branch.false c.in_ok-answer_waiting.ensures in
     omega (arith, c.in-Some.ensures.shorter, ap length same.1)
 
 pub loop-text-preserved : goal.loop-text-preserved
