@@ -15,7 +15,8 @@ pub enum Mark {
 }
 
 impl Mark {
-    // 0 for a dose, 1 for a flush.
+    // 0 for a dose, 1 for a flush: the variant's value, which `as` alone gives. A fault of the word layer has the same one line;
+    // a trait for the two would be longer.
     pub fn number(self) -> u32
         ensures { result ≡ mark_number self }
     {
@@ -52,7 +53,8 @@ impl TryFrom<i64> for Mark {
     }
 }
 
-// A row of a dose. Every row is a dose: its weight is the field modulo 10,000,000.
+// A row of a dose. Every row is a dose: its weight is the field modulo 10,000,000. No ghost field bounds it, since the rules
+// give any row of a lent table a meaning.
 #[derive(Clone, Copy, PartialEq, Eq, Debug)]
 pub struct Dose {
     next: u32,
@@ -66,13 +68,14 @@ impl Dose {
     pub fn new(component: u16, weight: i64, mark: i64) -> Result<Dose, StoreFault>
         ensures { result ≡ built component weight mark }
     {
-        if !(0..=9_999_999).contains(&weight) {
-            return Err(StoreFault::BadDose);
-        }
+        let milligrams = u32::try_from(weight)
+            .ok()
+            .filter(|w| *w <= 9_999_999)
+            .ok_or(StoreFault::BadDose)?;
         Ok(Dose {
             next: 0,
             component,
-            milligrams: weight as u32,
+            milligrams,
             mark: Mark::try_from(mark)?,
         })
     }

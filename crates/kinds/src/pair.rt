@@ -35,12 +35,8 @@ impl Kind for Pair {
 
     fn set_link(&mut self, k: usize, w: u32) {
         match k {
-            0 => {
-                self.head = w;
-            }
-            1 => {
-                self.tail = w;
-            }
+            0 => self.head = w,
+            1 => self.tail = w,
             _ => {}
         }
     }

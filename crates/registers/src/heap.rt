@@ -6,7 +6,8 @@ use crate::table::RegisterTable;
 use kinds::barrier::Barrier;
 use kinds::fault::StoreFault;
 
-// The table has a place for each register.
+// The table has a place for each register. The limits stand beside the status, all 0 where the heap is closed: with a
+// `Result` of them, what is said of the table and of each register would have a case more.
 #[derive(Drop)]
 pub struct Heap<'a, B> {
     registers: &'a mut [u32],

@@ -28,6 +28,7 @@ impl<'a, B: Barrier> Store<'a, B> {
     }
 }
 
+// Each call is one line over the heap. A store does not have the trait `RegisterTable`, since `put_word` takes any word.
 impl<B: Barrier> Store<'_, B> {
     // Why the store is closed: 1 or 2 as a fault, or 0 as done where it is open.
     pub fn why(&self) -> Result<(), StoreFault>

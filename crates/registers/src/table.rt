@@ -10,7 +10,7 @@ use crate::seen::Seen;
 use kinds::fault::StoreFault;
 use words::word::{Word, number_word};
 
-// What a word is to a caller.
+// What a word is to a caller. No `From<u32>`: a number and its word are both `u32`, and `Seen::from` would not say which.
 fn classify(w: u32) -> Seen
     ensures value { done (seen_values result) ≡ do_look w }
     ensures range { seen_in_range result ≡ true }
@@ -23,7 +23,8 @@ fn classify(w: u32) -> Seen
 }
 
 // A heap with registers. `state` is what it holds, `status` why it is closed, `answers` what its barrier names; `sound` holds
-// of it between calls, and `frame` says what no call alters.
+// of it between calls, and `frame` says what no call alters. `sound` is asked for and no invariant of the type, since within
+// a call of the heap of records less holds.
 pub trait RegisterTable {
     ghost state: { Self → State };
 

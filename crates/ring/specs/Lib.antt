@@ -5,3 +5,4 @@ pub mod Sound
 pub mod View
 pub mod Inside
 pub mod Laws
+pub mod Printed

@@ -1,7 +1,10 @@
 // The colours of slots and the lengths of the arcs.
-ghost use Rattle.std.specs.Prelude.{◌≡◌, ◌+◌, ◌^◌, ◌<◌};
+ghost use Rattle.std.specs.Prelude.{◌≡◌, ◌+◌, ◌^◌, ◌<◌, Some};
 ghost use Rattle.ring.specs.Count.{one_more};
+ghost use Rattle.ring.specs.Printed.{lengths_text};
 ghost use Rattle.ring.specs.Sound.{stamp_colour};
+
+use std::fmt;
 
 // The arc in which a slot stands.
 #[derive(Clone, Copy, PartialEq, Eq, Debug)]
@@ -28,12 +31,27 @@ impl Colour {
 }
 
 // How many slots each arc has.
-#[derive(Clone, Copy, PartialEq, Eq, Default, Debug)]
+#[derive(Clone, Copy, PartialEq, Eq, Debug, Default)]
 pub struct Lengths {
     pub free: u32,
     pub white: u32,
     pub grey: u32,
     pub black: u32,
+}
+
+// As "free 3, white 0, grey 1, black 2".
+impl fmt::Display for Lengths {
+    ghost output = { λ l. Some (lengths_text l) };
+
+    fn fmt<W: fmt::Write>(&self, f: &mut fmt::Formatter<W>) -> fmt::Result {
+        let Lengths {
+            free,
+            white,
+            grey,
+            black,
+        } = *self;
+        write!(f, "free {free}, white {white}, grey {grey}, black {black}")
+    }
 }
 
 impl Lengths {

@@ -13,6 +13,8 @@ use std::marker::Model;
 mod cycle;
 mod moves;
 
+// A store lives in tables that its caller lends, one each for next slots, previous slots and stamps, and takes no memory of
+// its own: so indices link the slots, not a `Box`. A table may be longer than `slots`, and stays as it is beyond.
 // `head` is the first slot of the ring; `grey` and `black` are the slots at which these arcs begin, where an empty arc
 // begins at the next one's start. A slot's stamp says its colour: `epoch` is black, `epoch` + 1 grey, `epoch` − 2 white
 // while a cycle is open, anything else free.
@@ -124,7 +126,7 @@ impl Ring<'_> {
         Colour::of_stamp(self.stamp[x as usize], self.epoch, self.cycle_open)
     }
 
-    // Whether a slot has a colour.
+    // Whether a slot has a colour. That x is a slot, here and in two others, depends on the ring, so no type of x can say it.
     fn has_colour(&self, x: u32, c: Colour) -> bool
         requires slot { x < slots_of self.now }
         ensures { result ≡ (code_at (is_open_of self.now) self.now.epoch self.now.stamp x == code c) }
@@ -132,7 +134,8 @@ impl Ring<'_> {
         self.stamped_colour(x) == c
     }
 
-    // The colour of a slot; a number that is no slot has none.
+    // The colour of a slot; a number that is no slot has none. An `if`, as in `next_slot`: with `then(|| ..)` the promise of
+    // the method that the closure calls is lost.
     pub fn colour(&self, q: u32) -> Option<Colour>
         ensures sound { Fine self.now }
         ensures value { result ≡ colour_in q (arcs_of self.now) }

@@ -8,7 +8,8 @@ pub(crate) fn instead(x: u32, q: u32, n: u32) -> u32
     if x == q { n } else { x }
 }
 
-// Each of the first `slots` places becomes what f says of its index and of what stands there.
+// Each of the first `slots` places becomes what f says of its index and of what stands there. The index is cast, since it is
+// below `slots`; over `iter_mut().zip(0..slots)` a proof knows nothing of the places after the loop.
 pub(crate) fn set_each<F: Fn(u32, u32) -> u32>(table: &mut [u32], slots: u32, f: F)
     requires room { slots ≤ length table.old }
     requires callable { (k x : ℕ) → k < slots → x < 2 ^ 32 → F.pre f k x }

@@ -1,6 +1,7 @@
 // What the ring does on small examples.
-use crate::arcs::Colour;
+use crate::arcs::{Colour, Lengths};
 use crate::ring::Ring;
+use std::test::Fail;
 
 #[test]
 fn one_slot(rt: HostRuntime) {
@@ -65,10 +66,28 @@ fn beyond(rt: HostRuntime) {
     assert_eq!(rt; r.take(), Some(0));
     assert!(rt; r.open_cycle());
     assert!(rt; !r.shade(2));
-    assert!(rt; r.colour(2).is_none());
-    assert!(rt; r.next_slot(2).is_none());
-    assert!(rt; r.lengths().white == 1 && r.lengths().free == 1);
+    assert_eq!(rt; r.colour(2), None);
+    assert_eq!(rt; r.next_slot(2), None);
+    let lengths = Lengths {
+        free: 1,
+        white: 1,
+        ..Lengths::default()
+    };
+    assert_eq!(rt; r.lengths(), lengths);
     assert!(rt; next[2] == 9 && previous[2] == 9 && stamp[2] == 9);
+}
+
+#[test]
+fn lengths_printed(rt: HostRuntime) -> Result<(), Fail> {
+    let lengths = Lengths {
+        free: 3,
+        grey: 1,
+        black: 2,
+        ..Lengths::default()
+    };
+    let text = lengths.to_string(rt.alloc())?;
+    assert_eq!(rt; text.as_str(), "free 3, white 0, grey 1, black 2");
+    Ok(())
 }
 
 // With a short table the ring has no slot and the tables stay.

@@ -6,7 +6,7 @@ ghost use Rattle.rules.specs.Statements.{KeepsPromise, NothingInUseIsTakenBack, 
 
 // What a barrier says: whether it rescans, and, for an unmarked and for a marked target, whether it names the
 // overwritten word (old) and whether it names the new word.
-#[derive(Clone, Copy, PartialEq, Eq, Debug)]
+#[derive(Clone, Copy, PartialEq, Eq, Debug, Default)]
 pub struct BarrierTable {
     pub rescans: bool,
     pub old_unmarked: bool,

@@ -10,7 +10,7 @@ fn is_listed(number: u32) -> bool
 }
 
 // Whether some call of some run is refused with this number. A closed store refuses every call with 20, and no store
-// lacks a note.
+// lacks a note. A number, and no case of an enum: the rules know refusals by their numbers, and any number may be asked.
 pub fn may_refuse(number: u32) -> bool
     ensures value { result ≡ may_refuse number }
     ensures exact { (result ≡ true) ↔ Answered number }

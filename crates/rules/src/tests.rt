@@ -5,13 +5,7 @@ use super::refusal::may_refuse;
 
 #[test]
 fn barriers(rt: HostRuntime) {
-    let silent = BarrierTable {
-        rescans: false,
-        old_unmarked: false,
-        old_marked: false,
-        new_unmarked: false,
-        new_marked: false,
-    };
+    let silent = BarrierTable::default();
     assert!(rt; !is_lawful(silent));
     assert!(rt;
         is_lawful(BarrierTable {

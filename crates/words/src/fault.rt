@@ -13,7 +13,7 @@ pub enum WordFault {
 }
 
 impl WordFault {
-    // The refusal's number.
+    // The refusal's number: the variant's value, which `as` alone gives.
     pub fn number(self) -> u32
         ensures { result ≡ word_refusal self }
     {

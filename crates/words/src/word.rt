@@ -17,15 +17,15 @@ pub enum Word {
 }
 
 // The least number that has a word.
-const LEAST: i64 = -536_870_912;
+const LEAST: i32 = -536_870_912;
 
 // The greatest number that has a word.
-const GREATEST: i64 = 536_870_911;
+const GREATEST: i32 = 536_870_911;
 
 // A word holds its number modulo this.
-const MODULUS: i64 = 1_073_741_824;
+const MODULUS: i32 = 1_073_741_824;
 
-// The remainder modulo 4 of a number's word.
+// The remainder modulo 4 of a number's word. A number and no case of an enum, as those below: `parse` matches on remainders.
 const NUMBER: u32 = 1;
 
 // The remainder modulo 4 of a nursery place's word.
@@ -46,10 +46,11 @@ fn tagged(n: u32, tag: u32) -> Option<u32>
 pub fn number_word(v: i64) -> Result<u32, WordFault>
     ensures { result ≡ number_word_of v }
 {
-    if !(LEAST..=GREATEST).contains(&v) {
-        return Err(WordFault::NumberOutOfRange);
-    }
-    Ok(4 * (v.rem_euclid(MODULUS) as u32) + NUMBER)
+    let n = i32::try_from(v)
+        .ok()
+        .filter(|n| (LEAST..=GREATEST).contains(n))
+        .ok_or(WordFault::NumberOutOfRange)?;
+    Ok(4 * n.rem_euclid(MODULUS).cast_unsigned() + NUMBER)
 }
 
 // The word of a nursery place; a place from 2^30 on has none.
@@ -81,7 +82,8 @@ pub fn place_of(w: u32) -> Option<Place>
 }
 
 impl Word {
-    // What a 32-bit number means, if it is a word.
+    // What a 32-bit number means, if it is a word. An `Option`, here and in `encode`: a number that is no word is no fault,
+    // and `TryFrom` would ask for an error type.
     pub fn parse(w: u32) -> Option<Word>
         ensures value { result ≡ meaning w }
         ensures as_stated { AsStated }
@@ -111,7 +113,7 @@ impl Word {
         }
     }
 
-    // The place of the record that this meaning leads to, if it is a record's.
+    // The place of the record that this meaning leads to, if it is a record's. Not `TryFrom`: the other meanings are no faults.
     pub fn place(self) -> Option<Place>
         ensures { result ≡ place_meant self }
     {

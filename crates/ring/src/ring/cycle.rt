@@ -7,7 +7,8 @@ use super::Ring;
 use crate::tables::set_each;
 
 impl Ring<'_> {
-    // Stamps and an epoch that leave room, for the same arcs.
+    // Stamps and an epoch that leave room, for the same arcs. No cycle is open, here and in the two steps below: a type for
+    // such a ring would be a second one with the same nine fields.
     fn renew(&mut self)
         requires shut { is_open_of self.old ≡ false }
         ensures sound { Fine self.new }
@@ -45,7 +46,7 @@ impl Ring<'_> {
     }
 
     // The black arc becomes the white one and a cycle is open; nothing changes while one is open. Says whether one was
-    // opened.
+    // opened, which is no fault either way, so it is a `bool` as in `close_cycle` and `shade`.
     pub fn open_cycle(&mut self) -> bool
         ensures sound { Fine self.new }
         ensures answer { result ≡ not (is_open_of self.old) }
@@ -76,10 +77,7 @@ impl Ring<'_> {
         ensures answer { result ≡ may_close (is_open_of self.old) (arcs_of self.old) }
         ensures left { Leaves self.old self.new (closed_arcs (is_open_of self.old) (arcs_of self.old)) (still_open (is_open_of self.old) (arcs_of self.old)) }
     {
-        if !self.cycle_open {
-            return false;
-        }
-        if self.has_grey() {
+        if !self.cycle_open || self.has_grey() {
             return false;
         }
         self.end_cycle();

@@ -19,7 +19,8 @@ impl Ring<'_> {
         self.head = self.next[h as usize];
     }
 
-    // The first free slot becomes the last black one.
+    // The first free slot becomes the last black one. Of the same shape as `scan`: one function for both would need a
+    // parameter for each of their four parts, and its contract the definitions of both.
     pub fn take(&mut self) -> Option<u32>
         ensures sound { Fine self.new }
         ensures answer { result ≡ taken_slot (arcs_of self.old) }
