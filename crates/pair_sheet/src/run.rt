@@ -60,6 +60,7 @@ impl NewStore for PairSheet {
         sizes: Sizes,
         session: &mut Session<'_>,
     ) -> Result<bool, RowFault> {
+        // The tables stand one by one: a generic struct can have no array of a type parameter.
         let mut nursery = [NOTHING; PLACES];
         let mut slots = [NOTHING; SLOTS];
         let mut registers = [0u32; REGISTERS];
