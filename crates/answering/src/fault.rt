@@ -57,7 +57,7 @@ impl SheetFault {
         }
     }
 
-    // The first offending field, 1 to 3, or 0. A match, since a fault of the lines carries the field.
+    // The first offending field, 1 to 3, or 0, as an answer line has it. A match, since a fault of the lines carries the field.
     pub fn column(self) -> u32
         ensures { result ≡ sheet_column self }
     {

@@ -61,7 +61,7 @@ fn main(rt: HostRuntime) -> Result<(), DayFault> {
         return Err(DayFault::Unanswered);
     }
     report::print_day(&rt, &calls, &answers)?;
-    for valve in 0..VALVES as i64 {
+    for valve in 0..SIZES.registers {
         report::print_tally(&rt, valve, store.tally(valve))?;
     }
     Ok(())

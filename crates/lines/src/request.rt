@@ -32,7 +32,7 @@ impl FormatFault {
         }
     }
 
-    // The first field that offends, 1 to 3, or 0 where none does.
+    // The first field that offends, 1 to 3, or 0 where none does: the number that an answer line has, so that it is no Option.
     pub fn column(self) -> u8
         ensures { result ≡ format_column self }
     {

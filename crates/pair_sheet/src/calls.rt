@@ -41,21 +41,22 @@ impl<B: Barrier> SheetStore<PairSheet> for Store<'_, Pair, B> {
         ensures reply { (n : ℕ) → row_of_result n result ≡ row_of_reply n (reply_to_order rules (running B.answers (held self.old.heap)) (order_of order request)) }
     {
         let Request { command, a, b, c } = request;
-        match command {
-            Command::OpenSnapshot | Command::OpenUpdate => Err(SheetFault::OutOfTurn),
-            Command::Load => Ok(self.load(a, b)?.into()),
-            Command::Empty => Ok(self.empty(a)?.into()),
-            Command::Copy => Ok(self.copy(a, b)?.into()),
-            Command::Make => Ok(self.make(a, &NOTHING, &[b, c])?.into()),
-            Command::Read => Ok(self.read(a, b, c)?.into()),
-            Command::Write => Ok(self.write(a, b, c)?.into()),
-            Command::Same => Ok(self.same(a, b)?.into()),
-            Command::Look => Ok(Values {
+        let values = match command {
+            Command::OpenSnapshot | Command::OpenUpdate => return Err(SheetFault::OutOfTurn),
+            Command::Load => self.load(a, b)?.into(),
+            Command::Empty => self.empty(a)?.into(),
+            Command::Copy => self.copy(a, b)?.into(),
+            Command::Make => self.make(a, &NOTHING, &[b, c])?.into(),
+            Command::Read => self.read(a, b, c)?.into(),
+            Command::Write => self.write(a, b, c)?.into(),
+            Command::Same => self.same(a, b)?.into(),
+            Command::Look => Values {
                 numbers: numbers_of(self.look(a)?),
-            }),
-            Command::Step => Ok(collected(self.step()?)),
-            Command::Full => Ok(collected(self.full()?)),
-            Command::Tell => Ok(self.tell()?.into()),
-        }
+            },
+            Command::Step => collected(self.step()?),
+            Command::Full => collected(self.full()?),
+            Command::Tell => self.tell()?.into(),
+        };
+        Ok(values)
     }
 }

@@ -30,15 +30,16 @@ impl<B: Barrier> SheetStore<RegisterSheet> for Store<'_, B> {
         ensures reply { (n : ℕ) → row_of_result n result ≡ row_of_reply n (reply_to_order rules (running B.answers (view self.old.heap)) (order_of order request)) }
     {
         let Request { command, a, b, .. } = request;
-        match command {
-            Command::OpenSnapshot | Command::OpenUpdate => Err(SheetFault::OutOfTurn),
-            Command::Load => Ok(self.load(a, b)?.into()),
-            Command::Empty => Ok(self.empty(a)?.into()),
-            Command::Copy => Ok(self.copy(a, b)?.into()),
-            Command::Same => Ok(self.same(a, b)?.into()),
-            Command::Look => Ok(Values {
+        let values = match command {
+            Command::OpenSnapshot | Command::OpenUpdate => return Err(SheetFault::OutOfTurn),
+            Command::Load => self.load(a, b)?.into(),
+            Command::Empty => self.empty(a)?.into(),
+            Command::Copy => self.copy(a, b)?.into(),
+            Command::Same => self.same(a, b)?.into(),
+            Command::Look => Values {
                 numbers: numbers_of(self.look(a)?),
-            }),
-        }
+            },
+        };
+        Ok(values)
     }
 }

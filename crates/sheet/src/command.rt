@@ -1,4 +1,4 @@
-// The commands of a sheet of registers.
+// The commands of a sheet of registers. An enum of its own, since the commands on records are unknown to this sheet.
 ghost use Rattle.std.specs.Prelude.{refl};
 ghost use Rattle.sheet.specs.Commands.{commands};
 

@@ -5,7 +5,7 @@ use Rattle.registers.specs.Answers.{told_done}
 use Rattle.registers.specs.State.{after, answer}
 use Rattle.answering.specs.declared.fault.SheetFault.TheVariants.{Store}
 use Rattle.answering.specs.Runs.{row_of_result}
-use Rattle.answering.specs.Sheets.{running, calling, reply_of, row_of_reply, state_after_order, reply_to_order}
+use Rattle.answering.specs.Sheets.{running, reply_of, row_of_reply, state_after_order, reply_to_order}
 use Rattle.pair_sheet.specs.Pairs.{held}
 use Rattle.pair_sheet.specs.Sheets.{order, rules as pair_rules}
 use Rattle.pair_sheet.proofs.Called.{refusal_row, write_passed}
@@ -19,7 +19,8 @@ returns-in_err-write-in-Write-clause-state g c =
     let fa : SFits w64 q.a = search rules in
     let fb : SFits w64 q.b = search rules in
     let fc : SFits w64 q.c = search rules in
-    ap (running b) (c.write.ensures.state ∙ ap (after b s) (write_passed q.a q.b q.c fa fb fc)) ∙ sym (ap (λ w. state_after_order pair_rules (running b s) (order w q.a q.b q.c)) c.in-Write.is)
+    let left : running b (held c.write.new.self.heap) ≡ running b (after b s (write q.a q.b q.c)) = ap (running b) (c.write.ensures.state ∙ ap (after b s) (write_passed q.a q.b q.c fa fb fc)) in
+    left ∙ sym (ap (λ w. state_after_order pair_rules (running b s) (order w q.a q.b q.c)) c.in-Write.is)
 
 pub returns-in_err-write-in-Write-clause-reply : goal.returns-in_err-write-in-Write-clause-reply
 returns-in_err-write-in-Write-clause-reply g c n =
