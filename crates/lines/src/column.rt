@@ -29,10 +29,10 @@ pub fn read_column(row: &[u8]) -> Column
     if row.len() != 10 {
         return Column::NoNumber;
     }
-    Text {
+    let text = Text {
         bytes: &row[leading_blanks(row)..],
-    }
-    .column()
+    };
+    text.column()
 }
 
 // Writes the digits of n to the end of the row, the last one first, and answers where the first one stands. A digit is below
