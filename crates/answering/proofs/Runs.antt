@@ -3,11 +3,12 @@ use Rattle.std.proofs.Common.{◌≡◌, ℕ, ◌<◌, Bool, true, false, eqb, L
 use Rattle.std.proofs.lemmas.Int.{to_z-of_z}
 use Rattle.std.proofs.lemmas.Bool.{cond-true, cond-false}
 use Rattle.rules.specs.Rules.{Barrier}
+use Rattle.registers.specs.declared.sizes.Sizes.{Sizes}
 use Rattle.registers.specs.State.{State}
 use Rattle.lines.specs.declared.answer.RowFault.{RowFault}
 use Rattle.lines.specs.Answers.{row_bytes}
 use Rattle.lines.specs.Lines.{lines}
-use Rattle.answering.specs.Sheets.{SheetRules, SheetState, waiting, running, Reply, state_opened, reply_opened, state_after_line, reply_to_line, row_of_reply, next_line, written_for}
+use Rattle.answering.specs.Sheets.{SheetRules, SheetState, waiting, running, Reply, opening, state_opened, reply_opened, state_after_line, reply_to_request, reply_to_line, row_of_reply, next_line, written_for}
 use Rattle.answering.specs.declared.session.Session.{Session}
 use Rattle.answering.specs.Runs.{Answered, written_after}
 
@@ -28,6 +29,10 @@ written_none rules s n = refl
 written_more : (rules : SheetRules) (s : SheetState) (n : ℕ) (text : List ℕ) (rest : List (List ℕ)) → written_for rules s n (text ∷ rest) ≡ written_after rules (reply_to_line rules s text) (state_after_line rules s text) n rest
 unfolding written_for
 written_more rules s n text rest = refl
+
+-- the reply to a line that asks for an open
+pub opening_reply : (rules : SheetRules) (text : List ℕ) (b : Barrier) (z : Sizes) → rules.asked text ≡ Ok (opening b z) → reply_opened (rules.opened z) ≡ reply_to_line rules waiting text
+opening_reply rules text b z asked = sym (ap (reply_to_request rules waiting) asked)
 
 module _ (rules : SheetRules) where
   -- past the last line

@@ -1,7 +1,6 @@
 -- Typed results of a line, as replies and as the five numbers of an answer.
 use Rattle.std.specs.Prelude.{◌≡◌, ℕ, Bool, true, false, List, [], ◌∷◌, ◌++◌, ℤ, pos, Ok, Err, Result, Some, None, Option}
-use Rattle.rules.specs.Rules.{Barrier, Call, snapshot, update}
-use Rattle.registers.specs.State.{State, after, answer}
+use Rattle.rules.specs.Rules.{Barrier, snapshot, update}
 use Rattle.lines.specs.declared.answer.RowFault.{RowFault}
 use Rattle.lines.specs.declared.answer.RowFault.TheVariants.{NoMemory}
 use Rattle.lines.specs.Answers.{row_bytes}
@@ -13,17 +12,12 @@ use Rattle.answering.specs.declared.sheet.OpenedWith.{OpenedWith}
 use Rattle.answering.specs.declared.sheet.OpenedWith.TheVariants.{Snapshot, Update}
 use Rattle.answering.specs.declared.values.Values.{Values}
 use Rattle.answering.specs.Faults.{sheet_refusal, sheet_layer, sheet_column}
-use Rattle.answering.specs.Sheets.{SheetRules, SheetState, waiting, Reply, declined, Order, state_opened, reply_opened, opening, calling, sizes_asked, reply_of, row_of_reply, next_line, written_for}
+use Rattle.answering.specs.Sheets.{SheetRules, SheetState, waiting, Reply, declined, Order, state_opened, reply_opened, opening, calling, sizes_asked, row_of_reply, next_line, written_for}
 
 -- 0 and four values, or the refusal with line n
 abbrev pub row_of_result : ℕ → Result Values SheetFault → List ℤ
 row_of_result n (Ok values) = pos 0 ∷ values.numbers
 row_of_result n (Err e) = pos (sheet_refusal e) ∷ (pos n ∷ (pos (sheet_layer e) ∷ (pos (sheet_column e) ∷ (pos 0 ∷ []))))
-
--- a call on the open store and its result: what the store then holds, and the reply
-pub record Called (b : Barrier) (was is : State) (c : Call) (r : Result Values SheetFault) : Type 0 where
-  pub state : is ≡ after b was c
-  pub reply : (n : ℕ) → row_of_result n r ≡ row_of_reply n (reply_of (answer b was c))
 
 -- the answers of the barrier that a store is opened with
 abbrev pub barrier_of : OpenedWith → Barrier

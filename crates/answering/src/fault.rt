@@ -5,6 +5,8 @@ ghost use Rattle.answering.specs.declared.fault.SheetFault.TheVariants.{Format, 
 
 use kinds::fault::StoreFault;
 use lines::request::FormatFault;
+use std::error::Error;
+use std::fmt;
 
 #[derive(Clone, Copy, PartialEq, Eq, Debug)]
 pub enum SheetFault {
@@ -33,7 +35,7 @@ impl From<StoreFault> for SheetFault {
 }
 
 impl SheetFault {
-    // The refusal's number.
+    // The refusal's number. A match, since a refusal of the lines or of the store keeps its own.
     pub fn number(self) -> u32
         ensures { result ≡ sheet_refusal self }
     {
@@ -44,7 +46,7 @@ impl SheetFault {
         }
     }
 
-    // The layer that refused: 1 the sheet, 2 the store, 3 the words.
+    // The layer that refused: 1 the sheet, 2 the store, 3 the words. A match, since the case of the carried fault decides.
     pub fn layer(self) -> u32
         ensures { result ≡ sheet_layer self }
     {
@@ -55,7 +57,7 @@ impl SheetFault {
         }
     }
 
-    // The first offending field, 1 to 3, or 0.
+    // The first offending field, 1 to 3, or 0, as an answer line has it. A match, since a fault of the lines carries the field.
     pub fn column(self) -> u32
         ensures { result ≡ sheet_column self }
     {
@@ -65,3 +67,22 @@ impl SheetFault {
         }
     }
 }
+
+impl fmt::Display for SheetFault {
+    ghost use Rattle.std.specs.Prelude.{Some};
+    ghost use Rattle.answering.specs.Faults.{sheet_text};
+
+    ghost output = { λ e. Some (sheet_text e) };
+
+    fn fmt<W: fmt::Write>(&self, f: &mut fmt::Formatter<W>) -> fmt::Result {
+        match self {
+            SheetFault::Format(e) => e.fmt(f),
+            SheetFault::OutOfTurn => f.write_str(
+                "a call before an accepted open, or an open after one",
+            ),
+            SheetFault::Store(e) => e.fmt(f),
+        }
+    }
+}
+
+impl Error for SheetFault {}

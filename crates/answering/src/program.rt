@@ -4,8 +4,9 @@ ghost use Rattle.answering.specs.declared.program.ProgramFault.TheVariants.{Stre
 
 use lines::answer::RowFault;
 use std::alloc::Global;
-use std::io;
+use std::error::Error;
 use std::io::{Read, Write};
+use std::{fmt, io};
 
 // Why the program ends before its answers are written.
 #[derive(Debug, Drop)]
@@ -31,6 +32,21 @@ impl From<RowFault> for ProgramFault {
         ProgramFault::Row(e)
     }
 }
+
+impl fmt::Display for ProgramFault {
+    ghost use Rattle.answering.specs.Faults.{program_text};
+
+    ghost output = { program_text };
+
+    fn fmt<W: fmt::Write>(&self, f: &mut fmt::Formatter<W>) -> fmt::Result {
+        match self {
+            ProgramFault::Stream(e) => e.fmt(f),
+            ProgramFault::Row(e) => e.fmt(f),
+        }
+    }
+}
+
+impl Error for ProgramFault {}
 
 // Reads a sheet, runs it and writes its answers.
 pub fn answer_input<F: FnOnce(Global, &[u8]) -> Result<Vec<u8>, RowFault>>(

@@ -1,13 +1,13 @@
 // What a sheet is: its commands, what they ask for, and the store that they are made on.
-ghost use Rattle.std.specs.Prelude.{◌≡◌, ℕ, [], ◌++◌, ℤ, if◌then◌else◌, MatchResult};
+ghost use Rattle.std.specs.Prelude.{◌≡◌, ℕ, List, [], ◌++◌, ℤ, if◌then◌else◌, MatchResult};
 ghost use Rattle.rules.specs.Rules.{Barrier as Answers};
-ghost use Rattle.registers.specs.declared.sizes.Sizes.{Sizes as Asked};
 ghost use Rattle.registers.specs.Answers.{told_why};
 ghost use Rattle.registers.specs.State.{State};
 ghost use Rattle.lines.specs.Lines.{lines};
+ghost use Rattle.lines.specs.Requests.{parsed};
 ghost use Rattle.lines.specs.declared.answer.RowFault.TheVariants.{NoMemory};
 ghost use Rattle.answering.specs.Runs.{row_of_result, Opens, Answered, written_after};
-ghost use Rattle.answering.specs.Sheets.{Order, rules_by, order_of, waiting, running, state_opened, reply_opened, state_after_order, reply_to_order, row_of_reply, written_for};
+ghost use Rattle.answering.specs.Sheets.{SheetRules, Order, order_of, order_read, waiting, running, state_opened, reply_opened, state_after_order, reply_to_order, row_of_reply, written_for};
 
 use crate::fault::SheetFault;
 use crate::session::Session;
@@ -18,6 +18,9 @@ use lines::answer::RowFault;
 use lines::command_set::CommandSet;
 use lines::request::Request;
 use registers::sizes::Sizes;
+
+// How many registers the store of a sheet has.
+pub const REGISTERS: usize = 8;
 
 // The barrier that a store is opened with.
 #[derive(Clone, Copy, PartialEq, Eq, Debug)]
@@ -30,14 +33,18 @@ pub enum OpenedWith {
 pub trait Sheet {
     type Command: CommandSet;
 
-    // What a command with its three numbers asks for, and what a store opened with sizes holds.
+    // What a command with its three numbers asks for.
     ghost order: { Self.Command → ℤ → ℤ → ℤ → Order };
 
-    ghost opened: { Asked → State };
+    // What a line asks for, and what a store opened with sizes holds.
+    ghost rules: { SheetRules };
 
     // The barrier that a command opens a store with, or none of a command that asks for a call.
     fn opens(command: Self::Command) -> Option<OpenedWith>
         ensures { Opens result (order command) };
+
+    // A line asks for what its command does with its numbers.
+    ghost asked: { (line : List ℕ) → rules.asked line ≡ order_read order (parsed Self.Command.commands line) };
 }
 
 // A store on which the requests of a sheet are made.
@@ -53,8 +60,8 @@ pub trait SheetStore<T: Sheet> {
 
     // One request, while the store is open.
     fn perform(&mut self, request: Request<T::Command>) -> Result<Values, SheetFault>
-        ensures state { running barrier (held self.new) ≡ state_after_order (rules_by T.Command.commands T.order T.opened) (running barrier (held self.old)) (order_of T.order request) }
-        ensures reply { (n : ℕ) → row_of_result n result ≡ row_of_reply n (reply_to_order (rules_by T.Command.commands T.order T.opened) (running barrier (held self.old)) (order_of T.order request)) };
+        ensures state { running barrier (held self.new) ≡ state_after_order T.rules (running barrier (held self.old)) (order_of T.order request) }
+        ensures reply { (n : ℕ) → row_of_result n result ≡ row_of_reply n (reply_to_order T.rules (running barrier (held self.old)) (order_of T.order request)) };
 }
 
 // A sheet with a store of its own, over tables that it makes for each open.
@@ -65,5 +72,5 @@ pub trait NewStore: Sheet {
         sizes: Sizes,
         session: &mut Session<'_>,
     ) -> Result<bool, RowFault>
-        ensures { Answered (rules_by Self.Command.commands Self.order Self.opened) result (session.old.out.items ++ written_after (rules_by Self.Command.commands Self.order Self.opened) (reply_opened (Self.opened sizes)) (state_opened B.answers (Self.opened sizes)) session.old.number (lines session.old.rest.now)) session.old session.new };
+        ensures { Answered Self.rules result (session.old.out.items ++ written_after Self.rules (reply_opened (Self.rules.opened sizes)) (state_opened B.answers (Self.rules.opened sizes)) session.old.number (lines session.old.rest.now)) session.old session.new };
 }

@@ -4,7 +4,8 @@ ghost use Rattle.dosing_day.specs.declared.fault.DayFault.TheVariants.{Store, Me
 
 use kinds::fault::StoreFault;
 use std::alloc::AllocError;
-use std::io;
+use std::error::Error;
+use std::{fmt, io};
 
 #[derive(Debug, Drop)]
 pub enum DayFault {
@@ -41,3 +42,20 @@ impl From<io::Error> for DayFault {
         DayFault::Stream(e)
     }
 }
+
+impl fmt::Display for DayFault {
+    ghost use Rattle.dosing_day.specs.Printed.{day_fault_text};
+
+    ghost output = { day_fault_text };
+
+    fn fmt<W: fmt::Write>(&self, f: &mut fmt::Formatter<W>) -> fmt::Result {
+        match self {
+            DayFault::Store(e) => e.fmt(f),
+            DayFault::Memory(e) => e.fmt(f),
+            DayFault::Unanswered => f.write_str("no memory for the answers"),
+            DayFault::Stream(e) => e.fmt(f),
+        }
+    }
+}
+
+impl Error for DayFault {}

@@ -14,29 +14,35 @@ use kinds::barrier::Snapshot;
 use kinds::dose::Dose;
 use store::run::run;
 
-// 12 slots, 4 nursery places, a register for each of 4 valves, and 3 scans a step.
-fn day_sizes() -> Sizes {
-    Sizes {
-        slots: 12,
-        places: 4,
-        registers: 4,
-        scans: 3,
-    }
-}
+const SLOTS: usize = 12;
+
+const PLACES: usize = 4;
+
+// Each valve has a register.
+const VALVES: usize = 4;
+
+// The sizes of the day's store. Three are casts, since there is no From<usize> for i64.
+const SIZES: Sizes = Sizes {
+    slots: SLOTS as i64,
+    places: PLACES as i64,
+    registers: VALVES as i64,
+    scans: 3,
+};
 
 fn main(rt: HostRuntime) -> Result<(), DayFault> {
+    // The tables stand one by one: a generic struct can have no array of a type parameter.
     let blank = Dose::new(0, 0, 0)?;
-    let mut nursery = [blank; 4];
-    let mut slots = [blank; 12];
-    let mut registers = [0u32; 4];
+    let mut nursery = [blank; PLACES];
+    let mut slots = [blank; SLOTS];
+    let mut registers = [0u32; VALVES];
     let mut forward = [Forward {
         target: None,
         copied: 0,
-    }; 4];
-    let mut notes = [Note { slot: 0, index: 0 }; 12];
-    let mut next = [0u32; 12];
-    let mut previous = [0u32; 12];
-    let mut stamp = [0u32; 12];
+    }; PLACES];
+    let mut notes = [Note { slot: 0, index: 0 }; SLOTS];
+    let mut next = [0u32; SLOTS];
+    let mut previous = [0u32; SLOTS];
+    let mut stamp = [0u32; SLOTS];
     let tables = Tables {
         nursery: &mut nursery,
         slots: &mut slots,
@@ -49,13 +55,13 @@ fn main(rt: HostRuntime) -> Result<(), DayFault> {
     };
     let calls = plan::day(rt.alloc())?;
     let mut answers = Vec::new(rt.alloc());
-    let mut store = run(tables, day_sizes(), Snapshot, &calls, &mut answers);
+    let mut store = run(tables, SIZES, Snapshot, &calls, &mut answers);
     store.why()?;
     if answers.len() < calls.len() {
         return Err(DayFault::Unanswered);
     }
     report::print_day(&rt, &calls, &answers)?;
-    for valve in 0..4 {
+    for valve in 0..SIZES.registers {
         report::print_tally(&rt, valve, store.tally(valve))?;
     }
     Ok(())

@@ -2,48 +2,70 @@
 use heap::tally::Tally;
 use kinds::dose::Dose;
 use kinds::fault::StoreFault;
-use ring::arcs::Lengths;
-use std::io;
+use std::{fmt, io};
 use store::call::{Answer, Call};
 
 // What was asked.
-fn print_call(rt: &HostRuntime, call: &Call<Dose>) -> io::Result<()> {
-    match call {
-        Call::Make { d, template, .. } => {
-            let weight = template.weight();
-            let mark = template.mark();
-            print!(rt; "valve {d}, {mark} of {weight} mg")
+#[derive(Clone, Copy)]
+struct Asked<'a>(&'a Call<Dose>);
+
+impl fmt::Display for Asked<'_> {
+    ghost use Rattle.std.specs.Prelude.{Some};
+    ghost use Rattle.dosing_day.specs.Printed.{asked_text};
+
+    ghost output = { λ asked. Some (asked_text asked.0.now) };
+
+    fn fmt<W: fmt::Write>(&self, f: &mut fmt::Formatter<W>) -> fmt::Result {
+        match self.0 {
+            Call::Make { d, template, .. } => {
+                let weight = template.weight();
+                let mark = template.mark();
+                write!(f, "valve {d}, {mark} of {weight} mg")
+            }
+            Call::Empty { r } => write!(f, "valve {r}, batch dropped"),
+            Call::Copy { d, s } => write!(f, "valve {d}, as valve {s}"),
+            Call::Write { s, k, t } => write!(f, "valve {s}, link {k} to valve {t}"),
+            Call::Tell => f.write_str("slots"),
+            Call::Step => f.write_str("step"),
+            Call::Full => f.write_str("full"),
+            _ => f.write_str("another call"),
         }
-        Call::Empty { r } => print!(rt; "valve {r}, batch dropped"),
-        Call::Copy { d, s } => print!(rt; "valve {d}, as valve {s}"),
-        Call::Write { s, k, t } => print!(rt; "valve {s}, link {k} to valve {t}"),
-        Call::Tell => print!(rt; "slots"),
-        Call::Step => print!(rt; "step"),
-        Call::Full => print!(rt; "full"),
-        _ => print!(rt; "another call"),
     }
 }
 
-fn print_lengths(rt: &HostRuntime, lengths: &Lengths) -> io::Result<()> {
-    let Lengths {
-        free,
-        white,
-        grey,
-        black,
-    } = *lengths;
-    println!(rt; ": free {free}, white {white}, grey {grey}, black {black}")
+// Why a call was refused, by its number.
+#[derive(Clone, Copy)]
+struct Refused(StoreFault);
+
+impl fmt::Display for Refused {
+    ghost use Rattle.std.specs.Prelude.{Some};
+    ghost use Rattle.dosing_day.specs.Printed.{refused_text};
+
+    ghost output = { λ refused. Some (refused_text refused.0) };
+
+    fn fmt<W: fmt::Write>(&self, f: &mut fmt::Formatter<W>) -> fmt::Result {
+        let number = self.0.number();
+        write!(f, "refused with {number}")
+    }
 }
 
 // What was answered.
-fn print_answer(rt: &HostRuntime, answer: &Result<Answer<Dose>, StoreFault>) -> io::Result<()> {
-    match answer {
-        Ok(Answer::Count(n)) => println!(rt; ": {n} in the nursery"),
-        Ok(Answer::Collected(s)) => println!(rt; ": {s}"),
-        Ok(Answer::Arcs(l)) => print_lengths(rt, l),
-        Ok(_) => println!(rt; ": done"),
-        Err(e) => {
-            let number = e.number();
-            println!(rt; ": refused with {number}")
+#[derive(Clone, Copy)]
+struct Told<'a>(&'a Result<Answer<Dose>, StoreFault>);
+
+impl fmt::Display for Told<'_> {
+    ghost use Rattle.std.specs.Prelude.{Some};
+    ghost use Rattle.dosing_day.specs.Printed.{told_text};
+
+    ghost output = { λ told. Some (told_text told.0.now) };
+
+    fn fmt<W: fmt::Write>(&self, f: &mut fmt::Formatter<W>) -> fmt::Result {
+        match self.0 {
+            Ok(Answer::Count(n)) => write!(f, "{n} in the nursery"),
+            Ok(Answer::Collected(stepped)) => stepped.fmt(f),
+            Ok(Answer::Arcs(lengths)) => lengths.fmt(f),
+            Ok(_) => f.write_str("done"),
+            Err(e) => Refused(*e).fmt(f),
         }
     }
 }
@@ -55,8 +77,7 @@ pub fn print_day(
     answers: &[Result<Answer<Dose>, StoreFault>],
 ) -> io::Result<()> {
     for (call, answer) in calls.iter().zip(answers.iter()) {
-        print_call(rt, call)?;
-        print_answer(rt, answer)?;
+        println!(rt; "{}: {}", Asked(call), Told(answer))?;
     }
     Ok(())
 }
@@ -69,9 +90,6 @@ pub fn print_tally(
 ) -> io::Result<()> {
     match tally {
         Ok(t) => println!(rt; "valve {valve}: {t}"),
-        Err(e) => {
-            let number = e.number();
-            println!(rt; "valve {valve}: refused with {number}")
-        }
+        Err(e) => println!(rt; "valve {valve}: {}", Refused(e)),
     }
 }

@@ -1,5 +1,6 @@
 -- What a line asks for, or why it is refused.
-use Rattle.std.specs.Prelude.{◌≡◌, ℕ, true, cond, ◌↔◌, List, ◌++◌, take, replicate, ℤ, pos, Some, None, Ok, Err, MatchBool, Option, Result, nat_le}
+use Rattle.std.specs.Prelude.{◌≡◌, ℕ, true, cond, ◌↔◌, List, ◌++◌, take, replicate, ℤ, pos, Some, None, Ok, Err, MatchBool, Option, Result, codes, nat_le}
+use Rattle.std.specs.Fmt.{decimal}
 use Rattle.std.specs.List.{between}
 use Rattle.lines.specs.declared.column.Column.{Column}
 use Rattle.lines.specs.declared.column.Column.TheVariants.{Blank, Number, NoNumber}
@@ -21,6 +22,12 @@ abbrev pub format_column : FormatFault → ℕ
 format_column NotALine = 0
 format_column UnknownCommand = 0
 format_column (BadField k) = k
+
+-- a fault in words
+abbrev pub format_text : FormatFault → List ℕ
+format_text NotALine = codes "the line is not 36 bytes of 32 to 126"
+format_text UnknownCommand = codes "the command is unknown"
+format_text (BadField k) = codes "field " ++ decimal k ++ codes " is no number, or not used and not blank"
 
 -- field k is used: it must be a number
 abbrev pub used_field : ℕ → Column → Result ℤ FormatFault

@@ -5,6 +5,8 @@ ghost use Rattle.lines.specs.Answers.{row_bytes, all_fit};
 
 use crate::column::write_column;
 use std::alloc::AllocError;
+use std::error::Error;
+use std::fmt;
 
 // Why an answer line is not written.
 #[derive(Clone, Copy, PartialEq, Eq, Debug)]
@@ -23,7 +25,24 @@ impl From<AllocError> for RowFault {
     }
 }
 
-// The bytes of an answer line, if each number fits its column.
+impl fmt::Display for RowFault {
+    ghost use Rattle.std.specs.Prelude.{Some};
+    ghost use Rattle.lines.specs.Answers.{row_fault_text};
+
+    ghost output = { λ e. Some (row_fault_text e) };
+
+    fn fmt<W: fmt::Write>(&self, f: &mut fmt::Formatter<W>) -> fmt::Result {
+        f.write_str(match self {
+            RowFault::WontFit => "a number does not fit its column",
+            RowFault::NoMemory => "no memory for the answers",
+        })
+    }
+}
+
+impl Error for RowFault {}
+
+// The bytes of an answer line, if each number fits its column. A range for each column: after chunks_exact_mut nothing is known
+// of the bytes.
 fn line_bytes(values: &[i64; 5]) -> Option<[u8; 51]>
     ensures { result ≡ (if all_fit values.now then Some (row_bytes values.now) else None) }
 {

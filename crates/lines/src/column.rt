@@ -1,8 +1,10 @@
 // A column of ten bytes: a base-ten number right-justified, or ten blanks.
-ghost use Rattle.std.specs.Prelude.{◌≡◌, ◌-◌, ◌^◌, ◌<◌, ◌≤◌, ◌++◌, length, take, IfSome, decimal};
-ghost use Rattle.lines.specs.Columns.{blanks, digits_after, natural, positive, negative, justified, column, fits_column, written, ColumnLaws};
+ghost use Rattle.std.specs.Prelude.{◌≡◌, ◌-◌, ◌≤◌, ◌++◌, length, take, decimal};
+ghost use Rattle.lines.specs.Columns.{blanks, column, fits_column, written, ColumnLaws};
 
-// What a column holds.
+use crate::text::Text;
+
+// What a column holds. An enum of three cases: as a Result of an Option, a blank would be Ok(None) to its readers.
 #[derive(Clone, Copy, PartialEq, Eq, Debug)]
 pub enum Column {
     Blank,
@@ -18,66 +20,6 @@ fn leading_blanks(row: &[u8]) -> usize
     row.iter().position(|b| *b != b' ').unwrap_or(row.len())
 }
 
-// The number that these bytes write if each is a digit; no bytes write 0.
-fn digits_value(digits: &[u8]) -> Option<u64>
-    requires { length digits.now ≤ 10 }
-    ensures value { result ≡ digits_after 0 digits.now }
-    ensures small { IfSome result (λ n. n < 10 ^ 10) }
-{
-    let mut n: u64 = 0;
-    for d in digits {
-        if !d.is_ascii_digit() {
-            return None;
-        }
-        n = n * 10 + u64::from(*d - b'0');
-    }
-    Some(n)
-}
-
-// The number that these bytes write without a sign: one digit at least, and no zero in front of another digit.
-fn parse_natural(digits: &[u8]) -> Option<u64>
-    requires { length digits.now ≤ 10 }
-    ensures value { result ≡ natural digits.now }
-    ensures small { IfSome result (λ n. n < 10 ^ 10) }
-{
-    match digits {
-        [] => None,
-        [b'0', _, ..] => None,
-        _ => digits_value(digits),
-    }
-}
-
-// A column with these digits.
-fn positive_column(digits: &[u8]) -> Column
-    requires { length digits.now ≤ 10 }
-    ensures { result ≡ positive (natural digits.now) }
-{
-    parse_natural(digits).map_or(Column::NoNumber, |n| Column::Number(n as i64))
-}
-
-// A column with a minus and these digits; −0 is no number.
-fn negative_column(digits: &[u8]) -> Column
-    requires { length digits.now ≤ 10 }
-    ensures { result ≡ negative (natural digits.now) }
-{
-    match parse_natural(digits) {
-        None | Some(0) => Column::NoNumber,
-        Some(n) => Column::Number(-(n as i64)),
-    }
-}
-
-// A column with this text after the blanks.
-fn text_column(text: &[u8]) -> Column
-    requires { length text.now ≤ 10 }
-    ensures { result ≡ justified text.now }
-{
-    match text {
-        [] => Column::Blank,
-        [b'-', digits @ ..] => negative_column(digits),
-        _ => positive_column(text),
-    }
-}
-
 // What a row of ten bytes holds; a row of another length holds no number.
 #[tactic(auto, using(crate::proofs::Columns::column_laws), unfolding(crate::specs::Columns::column))]
 pub fn read_column(row: &[u8]) -> Column
@@ -87,10 +29,14 @@ pub fn read_column(row: &[u8]) -> Column
     if row.len() != 10 {
         return Column::NoNumber;
     }
-    text_column(&row[leading_blanks(row)..])
+    let text = Text {
+        bytes: &row[leading_blanks(row)..],
+    };
+    text.column()
 }
 
-// Writes the digits of n to the end of the row, the last one first, and answers where the first one stands.
+// Writes the digits of n to the end of the row, the last one first, and answers where the first one stands. A digit is below
+// 10, so that the cast keeps it; a try_from would add a case that never comes.
 fn write_digits(row: &mut [u8], n: u64) -> usize
     requires { length (decimal n) ≤ length row.old }
     ensures first { result ≡ length row.old - length (decimal n) }

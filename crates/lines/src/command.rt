@@ -2,7 +2,7 @@
 ghost use Rattle.std.specs.Prelude.{refl};
 ghost use Rattle.lines.specs.Commands.{commands};
 
-use crate::command_set::{CommandSet, command_in};
+use crate::command_set::CommandSet;
 
 #[derive(Clone, Copy, PartialEq, Eq, Debug)]
 pub enum Command {
@@ -22,7 +22,7 @@ pub enum Command {
 }
 
 // The text of each command in six columns.
-const COMMANDS: [([u8; 6], Command); 13] = [
+const COMMANDS: &[([u8; 6], Command)] = &[
     (*b"opens ", Command::OpenSnapshot),
     (*b"openu ", Command::OpenUpdate),
     (*b"load  ", Command::Load),
@@ -41,8 +41,8 @@ const COMMANDS: [([u8; 6], Command); 13] = [
 impl CommandSet for Command {
     ghost commands = { commands };
 
-    fn parse(name: &[u8]) -> Option<Command> {
-        command_in(&COMMANDS, name)
+    fn table<'a>() -> &'a [([u8; 6], Command)] {
+        COMMANDS
     }
 
     fn field_count(self) -> usize {

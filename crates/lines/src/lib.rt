@@ -9,3 +9,4 @@ pub mod line;
 pub mod request;
 #[cfg(test)]
 mod tests;
+mod text;

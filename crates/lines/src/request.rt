@@ -6,6 +6,8 @@ ghost use Rattle.lines.specs.Requests.{format_refusal, format_column, field_read
 use crate::column::{Column, read_column};
 use crate::command_set::CommandSet;
 use crate::line::is_good_line;
+use std::error::Error;
+use std::fmt;
 
 // Why a line is refused.
 #[derive(Clone, Copy, PartialEq, Eq, Debug)]
@@ -19,7 +21,7 @@ pub enum FormatFault {
 }
 
 impl FormatFault {
-    // The number of the refusal.
+    // The number of the refusal. A match, since a case carries the field.
     pub fn refusal(self) -> u8
         ensures { result ≡ format_refusal self }
     {
@@ -30,7 +32,7 @@ impl FormatFault {
         }
     }
 
-    // The first field that offends, 1 to 3, or 0 where none does.
+    // The first field that offends, 1 to 3, or 0 where none does: the number that an answer line has, so that it is no Option.
     pub fn column(self) -> u8
         ensures { result ≡ format_column self }
     {
@@ -40,6 +42,26 @@ impl FormatFault {
         }
     }
 }
+
+impl fmt::Display for FormatFault {
+    ghost use Rattle.std.specs.Prelude.{Some};
+    ghost use Rattle.lines.specs.Requests.{format_text};
+
+    ghost output = { λ e. Some (format_text e) };
+
+    fn fmt<W: fmt::Write>(&self, f: &mut fmt::Formatter<W>) -> fmt::Result {
+        match self {
+            FormatFault::NotALine => f.write_str("the line is not 36 bytes of 32 to 126"),
+            FormatFault::UnknownCommand => f.write_str("the command is unknown"),
+            FormatFault::BadField(k) => write!(
+                f,
+                "field {k} is no number, or not used and not blank"
+            ),
+        }
+    }
+}
+
+impl Error for FormatFault {}
 
 // A command with its fields; a field that it does not use is 0.
 #[derive(Clone, Copy, PartialEq, Eq, Debug)]

@@ -1,20 +1,17 @@
 -- The calls of a sheet: refusals of the store as rows, and numbers that are passed on.
-use Rattle.std.proofs.Common.{◌≡◌, ℕ, ℤ, Err, Result, refl, ap, ◌∙◌, w64, SFits, to_z, of_z}
+use Rattle.std.proofs.Common.{◌≡◌, ℕ, ℤ, Err, refl, ap, ◌∙◌, w64, SFits, to_z, of_z}
 use Rattle.std.proofs.lemmas.Int.{to_z-of_z}
 use Rattle.words.specs.declared.fault.WordFault.TheVariants.{NumberOutOfRange}
-use Rattle.rules.specs.Rules.{Barrier, Call, write, refused}
+use Rattle.rules.specs.Rules.{write, refused}
 use Rattle.kinds.specs.Faults.{store_refusal}
 use Rattle.kinds.specs.declared.fault.StoreFault.{StoreFault}
 use Rattle.kinds.specs.declared.fault.StoreFault.TheVariants.{SizeOutOfRange, TableShort, NoSuchRegister, Word, NoSuchLink, WrongLinkCount, BadDose, Closed, NoRecord, NurseryFull, NoRoom, NotesFull, EndlessChain}
-use Rattle.registers.specs.State.{State, after, answer}
-use Rattle.answering.specs.declared.fault.SheetFault.{SheetFault}
 use Rattle.answering.specs.declared.fault.SheetFault.TheVariants.{Store}
-use Rattle.answering.specs.declared.values.Values.{Values}
-use Rattle.answering.specs.Runs.{Called, row_of_result}
+use Rattle.answering.specs.Runs.{row_of_result}
 use Rattle.answering.specs.Sheets.{reply_of, row_of_reply}
 
 -- the row of a refusal: only 4 is one of the word layer
-refusal_row : (e : StoreFault) (n : ℕ) → row_of_result n (Err (Store e)) ≡ row_of_reply n (reply_of (refused (store_refusal e)))
+pub refusal_row : (e : StoreFault) (n : ℕ) → row_of_result n (Err (Store e)) ≡ row_of_reply n (reply_of (refused (store_refusal e)))
 refusal_row SizeOutOfRange n = refl
 refusal_row TableShort n = refl
 refusal_row NoSuchRegister n = refl
@@ -28,13 +25,6 @@ refusal_row NurseryFull n = refl
 refusal_row NoRoom n = refl
 refusal_row NotesFull n = refl
 refusal_row EndlessChain n = refl
-
--- a call that the store refuses
-pub called_refused : (b : Barrier) (was is : State) (c : Call) (e : StoreFault) (r : Result Values SheetFault) → is ≡ after b was c → refused (store_refusal e) ≡ answer b was c → r ≡ Err (Store e) → Called b was is c r
-called_refused b was is c e r left told value = record {
-  state = left;
-  reply = λ n. ap (row_of_result n) value ∙ refusal_row e n ∙ ap (λ a. row_of_reply n (reply_of a)) told;
-}
 
 -- a write whose numbers were passed on as 64-bit ones
 pub write_passed : (s k t : ℤ) → SFits w64 s → SFits w64 k → SFits w64 t → write (to_z w64 (of_z w64 s)) (to_z w64 (of_z w64 k)) (to_z w64 (of_z w64 t)) ≡ write s k t

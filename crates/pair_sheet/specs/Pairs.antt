@@ -11,6 +11,7 @@ use Rattle.registers.specs.Opening.{natural, sizes_in_range}
 use Rattle.registers.specs.State.{State, sizes_of, no_sizes}
 use Rattle.heap.specs.View.{view}
 use Rattle.answering.specs.Sheets.{register_count}
+use Rattle.pair_sheet.specs.declared.run.TheConstants.{SLOTS, PLACES}
 
 -- what a heap of pairs holds
 abbrev pub pairs : Ghosts Pair
@@ -19,12 +20,12 @@ pairs = ghosts
 abbrev pub held : {B : Type 0} → Heap Pair B → State
 held h = view pairs h
 
--- beside its registers the sheet lends 64 nursery places and 256 slots
+-- how many nursery places and slots the sheet lends beside its registers
 abbrev pub place_count : ℕ
-place_count = 64
+place_count = PLACES
 
 abbrev pub slot_count : ℕ
-slot_count = 256
+slot_count = SLOTS
 
 -- no more slots, places and registers than are lent
 abbrev pub within_lent : Sizes → Bool

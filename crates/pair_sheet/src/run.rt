@@ -1,13 +1,12 @@
 // Running a sheet of pairs: what is written for the lines of an input.
-ghost use Rattle.std.specs.Prelude.{◌≡◌, MatchResult};
+ghost use Rattle.std.specs.Prelude.{◌≡◌, refl, MatchResult};
 ghost use Rattle.lines.specs.declared.answer.RowFault.TheVariants.{NoMemory};
-ghost use Rattle.pair_sheet.specs.Pairs.{pairs_opened};
 ghost use Rattle.pair_sheet.specs.Promised.{SheetPromise};
-ghost use Rattle.pair_sheet.specs.Sheets.{order, sheet_output};
+ghost use Rattle.pair_sheet.specs.Sheets.{order, rules, sheet_output};
 
 use answering::run::run_new;
 use answering::session::Session;
-use answering::sheet::{NewStore, OpenedWith, Sheet};
+use answering::sheet::{NewStore, OpenedWith, REGISTERS, Sheet};
 use heap::heap::tables::Tables;
 use heap::rows::{Forward, Note};
 use kinds::barrier::Barrier;
@@ -18,8 +17,13 @@ use registers::sizes::Sizes;
 use std::alloc::Global;
 use store::store::Store;
 
+// How many slots and nursery places a store is lent beside its registers.
+pub const SLOTS: usize = 256;
+
+pub const PLACES: usize = 64;
+
 // What the tables of a new store hold.
-const NOTHING: Pair = Pair { head: 0, tail: 0 };
+pub(crate) const NOTHING: Pair = Pair { head: 0, tail: 0 };
 
 const NO_TARGET: Forward = Forward {
     target: None,
@@ -37,7 +41,7 @@ impl Sheet for PairSheet {
 
     ghost order = { order };
 
-    ghost opened = { pairs_opened };
+    ghost rules = { rules };
 
     fn opens(command: Command) -> Option<OpenedWith> {
         match command {
@@ -46,6 +50,8 @@ impl Sheet for PairSheet {
             _ => None,
         }
     }
+
+    ghost asked = { λ line. refl };
 }
 
 impl NewStore for PairSheet {
@@ -54,14 +60,15 @@ impl NewStore for PairSheet {
         sizes: Sizes,
         session: &mut Session<'_>,
     ) -> Result<bool, RowFault> {
-        let mut nursery = [NOTHING; 64];
-        let mut slots = [NOTHING; 256];
-        let mut registers = [0u32; 8];
-        let mut forward = [NO_TARGET; 64];
-        let mut notes = [NO_NOTE; 256];
-        let mut next = [0u32; 256];
-        let mut previous = [0u32; 256];
-        let mut stamp = [0u32; 256];
+        // The tables stand one by one: a generic struct can have no array of a type parameter.
+        let mut nursery = [NOTHING; PLACES];
+        let mut slots = [NOTHING; SLOTS];
+        let mut registers = [0u32; REGISTERS];
+        let mut forward = [NO_TARGET; PLACES];
+        let mut notes = [NO_NOTE; SLOTS];
+        let mut next = [0u32; SLOTS];
+        let mut previous = [0u32; SLOTS];
+        let mut stamp = [0u32; SLOTS];
         let tables = Tables {
             nursery: &mut nursery,
             slots: &mut slots,

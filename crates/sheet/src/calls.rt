@@ -29,27 +29,17 @@ impl<B: Barrier> SheetStore<RegisterSheet> for Store<'_, B> {
         ensures state { running B.answers (view self.new.heap) ≡ state_after_order rules (running B.answers (view self.old.heap)) (order_of order request) }
         ensures reply { (n : ℕ) → row_of_result n result ≡ row_of_reply n (reply_to_order rules (running B.answers (view self.old.heap)) (order_of order request)) }
     {
-        match request.command {
-            Command::OpenSnapshot | Command::OpenUpdate => Err(SheetFault::OutOfTurn),
-            Command::Load => {
-                self.load(request.a, request.b)?;
-                Ok(Values::none())
-            }
-            Command::Empty => {
-                self.empty(request.a)?;
-                Ok(Values::none())
-            }
-            Command::Copy => {
-                self.copy(request.a, request.b)?;
-                Ok(Values::none())
-            }
-            Command::Same => Ok(Values::flag(self.same(request.a, request.b)?)),
-            Command::Look => {
-                let seen = self.look(request.a)?;
-                Ok(Values {
-                    numbers: numbers_of(seen),
-                })
-            }
-        }
+        let Request { command, a, b, .. } = request;
+        let values = match command {
+            Command::OpenSnapshot | Command::OpenUpdate => return Err(SheetFault::OutOfTurn),
+            Command::Load => self.load(a, b)?.into(),
+            Command::Empty => self.empty(a)?.into(),
+            Command::Copy => self.copy(a, b)?.into(),
+            Command::Same => self.same(a, b)?.into(),
+            Command::Look => Values {
+                numbers: numbers_of(self.look(a)?),
+            },
+        };
+        Ok(values)
     }
 }

@@ -1,8 +1,8 @@
-// The commands of a sheet of registers.
+// The commands of a sheet of registers. An enum of its own, since the commands on records are unknown to this sheet.
 ghost use Rattle.std.specs.Prelude.{refl};
 ghost use Rattle.sheet.specs.Commands.{commands};
 
-use lines::command_set::{CommandSet, command_in};
+use lines::command_set::CommandSet;
 
 #[derive(Clone, Copy, PartialEq, Eq, Debug)]
 pub enum Command {
@@ -16,7 +16,7 @@ pub enum Command {
 }
 
 // The text of each command in six columns.
-const COMMANDS: [([u8; 6], Command); 7] = [
+const COMMANDS: &[([u8; 6], Command)] = &[
     (*b"opens ", Command::OpenSnapshot),
     (*b"openu ", Command::OpenUpdate),
     (*b"load  ", Command::Load),
@@ -29,8 +29,8 @@ const COMMANDS: [([u8; 6], Command); 7] = [
 impl CommandSet for Command {
     ghost commands = { commands };
 
-    fn parse(name: &[u8]) -> Option<Command> {
-        command_in(&COMMANDS, name)
+    fn table<'a>() -> &'a [([u8; 6], Command)] {
+        COMMANDS
     }
 
     fn field_count(self) -> usize {

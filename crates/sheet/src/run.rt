@@ -1,12 +1,12 @@
 // Running a sheet of registers: what is written for the lines of an input.
-ghost use Rattle.std.specs.Prelude.{◌≡◌, MatchResult};
+ghost use Rattle.std.specs.Prelude.{◌≡◌, refl, MatchResult};
 ghost use Rattle.lines.specs.declared.answer.RowFault.TheVariants.{NoMemory};
-ghost use Rattle.sheet.specs.Sheets.{order, registers_opened, sheet_output};
+ghost use Rattle.sheet.specs.Sheets.{order, rules, sheet_output};
 
 use crate::command::Command;
 use answering::run::run_new;
 use answering::session::Session;
-use answering::sheet::{NewStore, OpenedWith, Sheet};
+use answering::sheet::{NewStore, OpenedWith, REGISTERS, Sheet};
 use kinds::barrier::Barrier;
 use lines::answer::RowFault;
 use registers::sizes::Sizes;
@@ -22,7 +22,7 @@ impl Sheet for RegisterSheet {
 
     ghost order = { order };
 
-    ghost opened = { registers_opened };
+    ghost rules = { rules };
 
     fn opens(command: Command) -> Option<OpenedWith> {
         match command {
@@ -31,6 +31,8 @@ impl Sheet for RegisterSheet {
             Command::Load | Command::Empty | Command::Copy | Command::Same | Command::Look => None,
         }
     }
+
+    ghost asked = { λ line. refl };
 }
 
 impl NewStore for RegisterSheet {
@@ -39,7 +41,7 @@ impl NewStore for RegisterSheet {
         sizes: Sizes,
         session: &mut Session<'_>,
     ) -> Result<bool, RowFault> {
-        let mut registers = [0u32; 8];
+        let mut registers = [0u32; REGISTERS];
         let mut store = Store::open(&mut registers, sizes, barrier);
         run_new::<RegisterSheet, _>(&mut store, session)
     }

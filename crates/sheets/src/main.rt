@@ -1,16 +1,13 @@
 // Runs the sheets that the arguments name, one after the other, and writes their answers to standard output.
 #![tactic(auto)]
 
-use anyhow::anyhow;
 use std::io::Write;
 use std::{env, fs};
 
 // Runs the sheet in a file.
 fn run_file(rt: &HostRuntime, name: &str) -> anyhow::Result<()> {
     let input = fs::read(rt, name)?;
-    let answers = pair_sheet::run::run(rt.alloc(), &input).map_err(|_| anyhow!(
-        "no memory for the answers"
-    ))?;
+    let answers = pair_sheet::run::run(rt.alloc(), &input)?;
     rt.stdout().write_all(&answers)?;
     Ok(())
 }

@@ -1,13 +1,13 @@
 use Rattle.std.proofs.Common.{◌∷◌, ◌++◌, Err, vec_items, ap}
 use Rattle.lines.specs.Lines.{lines}
 use Rattle.answering.specs.Runs.{row_of_result, state_after_opening, reply_to_opening, written_after}
-use Rattle.answering.specs.Sheets.{rules_by, waiting, row_of_reply, written_for}
+use Rattle.answering.specs.Sheets.{waiting, row_of_reply, written_for}
 use Rattle.answering.proofs.Runs.{written_line, written_step, answered_same}
 use Rattle.answering.proofs.run.answer_waiting.Goals as goal
 
 pub returns-in-Ok : goal.returns-in-Ok
 returns-in-Ok g c =
-    let rules = rules_by g.T.Command.CommandSet.commands g.T.Sheet.order g.T.Sheet.opened in
+    let rules = g.T.Sheet.rules in
     let s = c.args.session.now in
     let text = c.args.text.now in
     let rest = lines s.rest.now in
@@ -17,7 +17,7 @@ returns-in-Ok g c =
 
 pub returns-in_ok-answer-in-Err : goal.returns-in_ok-answer-in-Err
 returns-in_ok-answer-in-Err g c =
-    let rules = rules_by g.T.Command.CommandSet.commands g.T.Sheet.order g.T.Sheet.opened in
+    let rules = g.T.Sheet.rules in
     let s = c.args.session.now in
     let t = c.answer.new.self in
     let told = c.in-Err.ensures in (

@@ -1,13 +1,12 @@
 use Rattle.std.proofs.Common.{vec_items, sym, ap, ◌∙◌}
 use Rattle.lines.specs.Lines.{lines}
 use Rattle.answering.specs.Runs.{row_of_result}
-use Rattle.answering.specs.Sheets.{rules_by}
 use Rattle.answering.proofs.Runs.{refused_open, accepted_open}
 use Rattle.answering.proofs.run.run_new.Goals as goal
 
 pub returns-then-not-started : goal.returns-then-not-started
 returns-then-not-started g c =
-    let rules = rules_by g.T.Command.CommandSet.commands g.T.Sheet.order g.T.Sheet.opened in
+    let rules = g.T.Sheet.rules in
     let s = c.args.session.now in
     let t = c.answer.new.self in (
       refused_open rules g.S.SheetStore.barrier (g.S.SheetStore.held c.args.store.now) s.number t.number (lines s.rest.now) (lines t.rest.now) (vec_items s.out) (vec_items t.out) (row_of_result s.number c.answer_open-told.result) c.in_ok-answer.ensures.written (c.answer_open-told.ensures.reply s.number) c.in_ok-answer.ensures.number (ap lines c.answer.ensures.rest)
@@ -17,7 +16,7 @@ returns-then-not-started g c =
 
 pub returns : goal.returns
 returns g c =
-    let rules = rules_by g.T.Command.CommandSet.commands g.T.Sheet.order g.T.Sheet.opened in
+    let rules = g.T.Sheet.rules in
     let s = c.args.session.now in
     let t = c.answer.new.self in
     accepted_open rules g.S.SheetStore.barrier (g.S.SheetStore.held c.args.store.now) s.number t.number (lines s.rest.now) (lines t.rest.now) (vec_items s.out) (vec_items t.out) (row_of_result s.number c.answer_open-told.result) c.in_ok-answer.ensures.written (c.answer_open-told.ensures.reply s.number) c.in_ok-answer.ensures.number (ap lines c.answer.ensures.rest)

@@ -1,13 +1,13 @@
 use Rattle.std.proofs.Common.{vec_items, sym, ap, ◌∙◌}
 use Rattle.lines.specs.Lines.{lines}
 use Rattle.answering.specs.Runs.{row_of_result}
-use Rattle.answering.specs.Sheets.{rules_by, running}
+use Rattle.answering.specs.Sheets.{running}
 use Rattle.answering.proofs.Runs.{written_last, written_step, written_taken}
 use Rattle.answering.proofs.run.run_open.Goals as goal
 
 pub loop-text-preserved : goal.loop-text-preserved
 loop-text-preserved g c =
-    let rules = rules_by g.T.Command.CommandSet.commands g.T.Sheet.order g.T.Sheet.opened in
+    let rules = g.T.Sheet.rules in
     let state = running g.S.SheetStore.barrier (g.S.SheetStore.held c.loop-text.store) in
     let text = c.in-Some.text.now in
     let s = c.loop-text.session in
@@ -19,6 +19,6 @@ loop-text-preserved g c =
 
 pub returns : goal.returns
 returns g c =
-    let rules = rules_by g.T.Command.CommandSet.commands g.T.Sheet.order g.T.Sheet.opened in
+    let rules = g.T.Sheet.rules in
     let s = c.loop-text.session in
     c.next_line.ensures.out ∙ sym (written_last rules (vec_items s.out) (running g.S.SheetStore.barrier (g.S.SheetStore.held c.loop-text.store)) s.number (lines s.rest.now) c.in_default.ensures.line) ∙ c.loop-text.invariant

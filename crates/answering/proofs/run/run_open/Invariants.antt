@@ -1,12 +1,12 @@
 use Rattle.std.proofs.Common.{◌≡◌, ◌++◌, length, vec_items}
 use Rattle.lines.specs.Lines.{lines}
-use Rattle.answering.specs.Sheets.{rules_by, running, written_for}
+use Rattle.answering.specs.Sheets.{running, written_for}
 use Rattle.answering.proofs.run.run_open.Given as goal
 
 -- what is written, and what is still to be written for the lines that are left, are all that is to be written
 abbrev pub invariant-loop-text : goal.invariant-loop-text
 invariant-loop-text g l =
-    let rules = rules_by g.T.Command.CommandSet.commands g.T.Sheet.order g.T.Sheet.opened in
+    let rules = g.T.Sheet.rules in
     let b = g.S.SheetStore.barrier in
     vec_items l.session.out ++ written_for rules (running b (g.S.SheetStore.held l.store)) l.session.number (lines l.session.rest.now) ≡ vec_items l.initial.session.out ++ written_for rules (running b (g.S.SheetStore.held l.initial.store)) l.initial.session.number (lines l.initial.session.rest.now)
 

@@ -1,7 +1,7 @@
 use Rattle.std.proofs.Common.{w64, to_z, of_z}
 use Rattle.std.proofs.lemmas.Int.{to_z-of_z}
 use Rattle.dosing_day.proofs.Plans.{batch_more, batch_all}
-use Rattle.dosing_day.proofs.plan.add_batch.Goals as goal
+use Rattle.dosing_day.proofs.plan.Plan.add_batch.Goals as goal
 
 pub loop-portion-preserved : goal.loop-portion-preserved
 loop-portion-preserved c =
