@@ -1,13 +1,11 @@
 -- A new store: tables that are long enough, and the ring that begins in them.
-use Rattle.std.proofs.Common.{◌≡◌, ℕ, ◌+◌, ◌≤◌, true, leb, List, length, sym, ap, arith}
+use Rattle.std.proofs.Common.{◌≡◌, ℕ, ◌≤◌, true, leb, List, length, arith}
 use Rattle.std.proofs.lemmas.Bool.{and_parts}
 use Rattle.std.proofs.lemmas.Bool.Decides.{nat_tests}
-use Rattle.ring.specs.Arcs.{Arcs, new_arcs}
 use Rattle.ring.specs.View.{Kept as Left}
-use Rattle.ring.proofs.Fresh.{length_upto}
 use Rattle.heap.specs.declared.heap.tables.Tables.{Tables}
 use Rattle.heap.specs.Opening.{tables_long}
-use Rattle.heap.specs.View.{Rest}
+use Rattle.heap.specs.Rows.{Rest}
 
 -- the test of the tables, each by itself
 pub record Longs {X : Type 0} (s y r : ℕ) (t : Tables X) : Type 0 where
@@ -37,10 +35,3 @@ tables_longs s y r t h =
 -- what the ring keeps of a table
 pub left_rest : (n : ℕ) (was is : List ℕ) → Left n was is → Rest n was is
 left_rest n was is h = record { rest = h.rest; size = h.long }
-
--- a new ring has n free slots
-pub all_free : (n : ℕ) (a : Arcs) → a ≡ new_arcs n → 0 + length a.free ≡ n
-all_free n a e = omega (arith, ap (λ x. length x.free) e, length_upto 0 n)
-
-pub no_white : (n : ℕ) (a : Arcs) → a ≡ new_arcs n → 0 ≡ length a.white
-no_white n a e = sym (ap (λ x. length x.white) e)

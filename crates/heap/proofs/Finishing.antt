@@ -2,14 +2,15 @@
 use Rattle.std.proofs.Common.{◌≡◌, ℕ, zero, suc, ◌+◌, ◌≤◌, false, cond, List, [], ◌∷◌, ◌++◌, length, get_or, refl, ap, ◌∙◌, arith}
 use Rattle.std.proofs.lemmas.List.{length-append}
 use Rattle.ring.specs.Arcs.{Arcs, split_last, scan_from, close_arcs}
-use Rattle.ring.specs.View.{arcs_of, slots_of, LinkedRing}
+use Rattle.ring.specs.View.{arcs_of, slots_of, Fine, LinkedRing}
 use Rattle.ring.proofs.Facts.{fine_linked}
 use Rattle.rules.specs.Rules.{Record, Store, no_record, with_arcs, with_cycle, shade_all, scan_taken, scan_next, scan_upto, scan_and_close, is_empty}
 use Rattle.rules.proofs.Counting.{length_split_last}
 use Rattle.rules.proofs.Shading.{shaded_all}
+use Rattle.ring.specs.Sound.{Tables}
 use Rattle.kinds.specs.declared.kind.Kind.{Ghosts}
 use Rattle.heap.specs.declared.heap.Heap.{Heap}
-use Rattle.heap.specs.View.{Kept, contents}
+use Rattle.heap.specs.View.{contents}
 
 -- the slots that a scan can still reach
 abbrev unscanned : Arcs → ℕ
@@ -43,15 +44,15 @@ closes s k h =
     let t = with_arcs (scan_upto s.slots k s.arcs).0 s in
     ap (λ gs. (cond (is_empty gs) (with_cycle false (with_arcs (close_arcs t.arcs) t)) t).cycle) (none_grey s.slots k s.arcs h)
 
--- no more slots of a heap are white or grey than it has
-few_unscanned : {X B : Type 0} (g : Ghosts X) (h : Heap X B) → Kept h → unscanned (contents g h).arcs ≤ h.limits.slots
-few_unscanned g h kept =
-    let a = arcs_of h.ring in
-    let linked : LinkedRing h.ring = fine_linked h.ring kept.fine in
-    let size : length (a.free ++ (a.white ++ (a.grey ++ a.black))) ≡ slots_of h.ring = linked.size in
-    let sum : length a.free + (length a.white + (length a.grey + length a.black)) ≡ slots_of h.ring = simp length-append at size in
-    omega (arith, sum, kept.ring_size)
+-- no more slots are white or grey than there are
+few_unscanned : (r : Tables) → Fine r → unscanned (arcs_of r) ≤ slots_of r
+few_unscanned r f =
+    let a = arcs_of r in
+    let linked : LinkedRing r = fine_linked r f in
+    let size : length (a.free ++ (a.white ++ (a.grey ++ a.black))) ≡ slots_of r = linked.size in
+    let sum : length a.free + (length a.white + (length a.grey + length a.black)) ≡ slots_of r = simp length-append at size in
+    omega (arith, sum)
 
 -- with as many scans as a heap has slots
-pub finish_shut : {X B : Type 0} (g : Ghosts X) (h k : Heap X B) (n : ℕ) → Kept h → n ≡ h.limits.slots → contents g k ≡ scan_and_close n (contents g h) → (contents g k).cycle ≡ false
-finish_shut g h k n kept is left = ap (λ s. s.cycle) left ∙ closes (contents g h) n (omega (arith, few_unscanned g h kept, is))
+pub finish_shut : {X B : Type 0} (g : Ghosts X) (h : Heap X B) (s : Store) → s ≡ scan_and_close h.limits.slots (contents g h) → s.cycle ≡ false
+finish_shut g h s left = ap (λ t. t.cycle) left ∙ closes (contents g h) h.limits.slots (omega (arith, few_unscanned h.area.ring h.kept.fine, h.kept.ring_size))

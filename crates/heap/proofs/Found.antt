@@ -8,13 +8,14 @@ use Rattle.kinds.specs.declared.kind.Kind.{Ghosts}
 use Rattle.rules.specs.Rules.{Record, no_record, with_nursery, with_slots, record_at, put_record}
 use Rattle.heap.specs.declared.heap.Heap.{Heap}
 use Rattle.heap.specs.Answers.{is_within, Within}
-use Rattle.heap.specs.View.{Sound, front, contents}
+use Rattle.heap.specs.View.{contents}
+use Rattle.heap.specs.Rows.{front}
 use Rattle.heap.proofs.Fronts.{length_front, take_set_any}
 use Rattle.heap.specs.Meaning.{meaning_of}
 
 -- the nursery of the rules has as many records as places are used
-pub nursery_length : {X B : Type 0} (g : Ghosts X) (h : Heap X B) → Sound h → length (contents g h).nursery ≡ h.used
-nursery_length g h s = length_front (meaning_of g) h.used h.nursery.now (omega (arith, s.kept.used_low, s.kept.long.1))
+pub nursery_length : {X B : Type 0} (g : Ghosts X) (h : Heap X B) → length (contents g h).nursery ≡ h.used
+nursery_length g h = length_front (meaning_of g) h.used h.nursery.now (omega (arith, h.kept.used_low, h.kept.nursery_long))
 
 pub within : (used slots : ℕ) (at : Place) → is_within used slots at ≡ true → Within used slots at
 within used slots (Young p) h = grind (arith, nat_tests)

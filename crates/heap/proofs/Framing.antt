@@ -1,10 +1,12 @@
 -- What no call alters, step by step.
-use Rattle.std.proofs.Common.{◌≡◌, ℕ, ◌<◌, List, length, drop, set, sym, refl, ap, ◌∙◌, length-set}
-use Rattle.std.proofs.lemmas.List.{drop-set-lt}
-use Rattle.ring.specs.declared.ring.Ring.{Ring}
-use Rattle.ring.specs.View.{slots_of, Kept as Left, Beyond}
+use Rattle.std.proofs.Common.{◌≡◌, ℕ, ◌<◌, ◌≤◌, List, ◌++◌, length, take, drop, set, sym, refl, ap, ◌∙◌, arith, length-set, length-append, length-drop}
+use Rattle.std.proofs.lemmas.List.{drop-set-lt, length-take-le}
+use Rattle.std.proofs.lemmas.Slice.{drop-append-drop}
+use Rattle.ring.specs.View.{slots_of}
 use Rattle.heap.specs.declared.heap.Heap.{Heap}
-use Rattle.heap.specs.View.{Rest, Frame}
+use Rattle.heap.specs.View.{Frame}
+use Rattle.heap.specs.Rows.{Rest}
+use Rattle.heap.proofs.Leaving.{beyond_refl, beyond_then}
 
 -- a table that is not written, and one written below n
 pub rest_refl : {X : Type 0} (n : ℕ) (xs : List X) → Rest n xs xs
@@ -16,21 +18,11 @@ rest_set n xs i x low = record { rest = drop-set-lt n xs i x low; size = length-
 pub rest_trans : {X : Type 0} (m n : ℕ) (xs ys zs : List X) → n ≡ m → Rest m xs ys → Rest n ys zs → Rest m xs zs
 rest_trans m n xs ys zs e a b = record { rest = ap (λ k. drop k zs) (sym e) ∙ b.rest ∙ ap (λ k. drop k ys) e ∙ a.rest; size = b.size ∙ a.size }
 
-left_refl : (n : ℕ) (xs : List ℕ) → Left n xs xs
-left_refl n xs = record { rest = refl {a = drop n xs}; long = refl {a = length xs} }
-
-left_trans : (m n : ℕ) (xs ys zs : List ℕ) → n ≡ m → Left m xs ys → Left n ys zs → Left m xs zs
-left_trans m n xs ys zs e a b = record { rest = ap (λ k. drop k zs) (sym e) ∙ b.rest ∙ ap (λ k. drop k ys) e ∙ a.rest; long = b.long ∙ a.long }
-
-pub beyond_refl : (r : Ring) → Beyond r r
-beyond_refl r = record { next_kept = left_refl _ _; previous_kept = left_refl _ _; stamp_kept = left_refl _ _ }
-
-pub beyond_trans : (a b c : Ring) → slots_of b ≡ slots_of a → Beyond a b → Beyond b c → Beyond a c
-beyond_trans a b c e f g = record {
-  next_kept = left_trans _ _ _ _ _ e f.next_kept g.next_kept;
-  previous_kept = left_trans _ _ _ _ _ e f.previous_kept g.previous_kept;
-  stamp_kept = left_trans _ _ _ _ _ e f.stamp_kept g.stamp_kept;
-}
+-- one of which the first k places were lent and given back
+pub rest_cut : {X : Type 0} (k n : ℕ) (xs ys : List X) → k ≤ n → k ≤ length xs → length ys ≡ length (take k xs) → Rest n xs (ys ++ drop k xs)
+rest_cut k n xs ys low long same =
+    let size : length ys ≡ k = same ∙ length-take-le k xs long in
+    record { rest = drop-append-drop k xs ys n low size; size = omega (arith, size, length-append ys (drop k xs), length-drop k xs, long) }
 
 -- nothing done, and one call after another
 pub frame_refl : {X B : Type 0} (h : Heap X B) → Frame h h
@@ -43,8 +35,8 @@ frame_refl h = record {
   slots_rest = rest_refl _ _;
   forward_rest = rest_refl _ _;
   notes_rest = rest_refl _ _;
-  same_slots = refl {a = slots_of h.ring};
-  ring_rest = beyond_refl h.ring;
+  same_slots = refl {a = slots_of h.area.ring};
+  ring_rest = beyond_refl h.area.ring;
 }
 
 pub frame_trans : {X B : Type 0} (a b c : Heap X B) → Frame a b → Frame b c → Frame a c
@@ -58,5 +50,5 @@ frame_trans a b c f g = record {
   forward_rest = rest_trans _ _ _ _ _ (ap (λ l. l.places) f.same_limits) f.forward_rest g.forward_rest;
   notes_rest = rest_trans _ _ _ _ _ (ap (λ l. l.slots) f.same_limits) f.notes_rest g.notes_rest;
   same_slots = g.same_slots ∙ f.same_slots;
-  ring_rest = beyond_trans a.ring b.ring c.ring f.same_slots f.ring_rest g.ring_rest;
+  ring_rest = beyond_then a.area.ring b.area.ring c.area.ring f.same_slots f.ring_rest g.ring_rest;
 }

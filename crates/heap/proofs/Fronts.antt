@@ -1,7 +1,7 @@
 -- The front of a table, each entry by its meaning: front f n xs is the first n entries.
 use Rattle.std.proofs.Common.{◌≡◌, ℕ, zero, suc, ◌+◌, ◌<◌, ◌≤◌, List, [], ◌∷◌, ◌++◌, map, length, get_or, take, set, refl, ap, ◌∙◌, arith, length-take}
 use Rattle.std.proofs.lemmas.List.{get_or-map, get_or-take, map-set, map_push, take_more_set, length-map}
-use Rattle.heap.specs.View.{front}
+use Rattle.heap.specs.Rows.{front}
 
 -- a write below or beyond the front of a list
 pub take_set_any : {X : Type 0} (n : ℕ) (xs : List X) (i : ℕ) (x : X) → take n (set xs i x) ≡ set (take n xs) i x

@@ -10,9 +10,11 @@ pub mod Found
 pub mod Linking
 pub mod Named
 pub mod Evacuations
-pub mod Stages
+pub mod Leaving
+pub mod Shading
+pub mod Copying
 pub mod Visits
-pub mod Carries
+pub mod Keeps
 pub mod Cycles
 pub mod Remembering
 pub mod Writes

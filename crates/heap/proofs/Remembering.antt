@@ -1,22 +1,14 @@
 -- The remembered set in its rows: row i has the slot noted as the i-th, and that slot's row says i.
-use Rattle.std.proofs.Common.{◌≡◌, ℕ, ◌+◌, ◌<◌, ◌≤◌, true, false, eqb, ltb, ◌≢◌, List, [], ◌∷◌, ◌++◌, map, length, get_or, take, set, Decides, sym, refl, ap, ◌∙◌, subst, ⊎_elim, arith, length-set, MutBor, below_more}
+use Rattle.std.proofs.Common.{◌≡◌, ℕ, ◌+◌, ◌<◌, ◌≤◌, true, false, eqb, ltb, ◌≢◌, List, [], ◌∷◌, ◌++◌, map, length, get_or, take, set, Decides, sym, refl, ap, ◌∙◌, subst, ⊎_elim, arith, length-set, below_more}
 use Rattle.std.specs.List.{HoldsAt}
 use Rattle.std.proofs.lemmas.List.{get_or-map, get_or-set_same, get_or-set_other, map-set, set-get_or, take-map}
 use Rattle.std.proofs.lemmas.Bool.{cases_eq, both_ways}
 use Rattle.std.proofs.lemmas.Bool.Decides.{Decides-by_or, Decides-eqb, Decides-ltb, same_from_decides}
 use Rattle.ring.specs.Arcs.{has}
-use Rattle.ring.specs.View.{slots_of}
-use Rattle.rules.specs.Rules.{with_notes}
-use Rattle.kinds.specs.declared.kind.Kind.{Ghosts}
-use Rattle.heap.specs.declared.heap.Heap.{Heap}
 use Rattle.heap.specs.declared.rows.Note.{Note}
-use Rattle.heap.specs.Carrying.{Carried}
-use Rattle.heap.specs.View.{Kept, Rest, front, contents}
-use Rattle.heap.proofs.Framing.{rest_refl, rest_set, rest_trans, beyond_refl}
+use Rattle.heap.specs.Rows.{Rest, front, no_note}
+use Rattle.heap.proofs.Framing.{rest_set, rest_trans}
 use Rattle.heap.proofs.Fronts.{front_at, front_push, length_front}
-
-abbrev no_note : Note
-no_note = record { slot = 0; index = 0 }
 
 abbrev slot_in : List Note → ℕ → ℕ
 slot_in ns i = (get_or ns i no_note).slot
@@ -125,50 +117,9 @@ noted_more n q ns room low =
     sym (take-map f (n + 1) (row_index ms q n)) ∙ ap (take (n + 1)) same ∙ take-map f (n + 1) ms
     ∙ front_push f n ns (record { slot = q; index = index_in ns n }) room
 
--- a heap with other note rows
-abbrev with_rows : {X B : Type 0} → Heap X B → MutBor (List Note) → ℕ → Heap X B
-with_rows h r n = record { nursery = h.nursery; slots = h.slots; registers = h.registers; forward = h.forward; notes = r; ring = h.ring; limits = h.limits; counts = h.counts; used = h.used; noted = n; copied = h.copied; status = h.status; barrier = h.barrier }
-
-pub note_carried : {X B : Type 0} (h : Heap X B) (r : MutBor (List Note)) (q : ℕ) → Kept h → q < h.limits.slots → has q (noted h.noted h.notes.now) ≡ false → h.noted < h.limits.slots → r.now ≡ row_noted h.notes.now h.noted q → Carried h (with_rows h r (h.noted + 1))
-note_carried h r q kept within fresh room is =
-    let ns = h.notes.now in
-    let long : h.limits.slots ≤ length ns = kept.long.4 in
-    let one = rest_set h.limits.slots ns h.noted (record { slot = q; index = index_in ns h.noted }) room in
-    let two = rest_set h.limits.slots (row_slot ns h.noted q) q (record { slot = slot_in (row_slot ns h.noted q) q; index = h.noted }) within in
-    let rest = rest_trans h.limits.slots h.limits.slots ns (row_slot ns h.noted q) (row_noted ns h.noted q) (refl {a = h.limits.slots}) one two in
-    let rows : Rows h.limits.slots (h.noted + 1) r.now =
-    subst (Rows h.limits.slots (h.noted + 1)) (sym is) (rows_noted h.limits.slots h.noted q ns kept.remembered (omega arith) (omega arith) within fresh) in
-    let size : length r.now ≡ length ns = ap length is ∙ rest.size in
-    let still : Kept (with_rows h r (h.noted + 1)) = record {
-      long = (kept.long.0, kept.long.1, kept.long.2, kept.long.3, omega (arith, size, long));
-      fine = kept.fine;
-      ring_size = kept.ring_size;
-      counted = kept.counted;
-      used_low = kept.used_low;
-      noted_low = omega (arith, room);
-      remembered = rows;
-      few_slots = kept.few_slots;
-      few_places = kept.few_places;
-    } in
-    record {
-      kept = still;
-      sound = λ s. record { kept = still; waiting = s.waiting };
-      frame = record {
-        same_limits = refl {a = h.limits};
-        same_status = refl {a = h.status};
-        same_barrier = refl {a = h.barrier};
-        registers_rest = rest_refl _ _;
-        nursery_rest = rest_refl _ _;
-        slots_rest = rest_refl _ _;
-        forward_rest = rest_refl _ _;
-        notes_rest = subst (Rest h.limits.slots ns) (sym is) rest;
-        same_slots = refl {a = slots_of h.ring};
-        ring_rest = beyond_refl h.ring;
-      };
-    }
-
-pub note_contents : {X B : Type 0} (g : Ghosts X) (h : Heap X B) (r : MutBor (List Note)) (q : ℕ) → Kept h → q < h.limits.slots → h.noted < h.limits.slots → r.now ≡ row_noted h.notes.now h.noted q → contents g (with_rows h r (h.noted + 1)) ≡ with_notes ((contents g h).notes ++ (q ∷ [])) (contents g h)
-note_contents g h r q kept within room is =
-    let ns = h.notes.now in
-    let long : h.limits.slots ≤ length ns = kept.long.4 in
-    ap (λ ms. with_notes ms (contents g h)) (ap (noted (h.noted + 1)) is ∙ noted_more h.noted q ns (omega arith) (omega arith))
+-- the rows beyond the slots are as they were
+pub rows_rest : (slots n q : ℕ) (ns : List Note) → n < slots → q < slots → Rest slots ns (row_noted ns n q)
+rows_rest slots n q ns room within =
+    rest_trans slots slots ns (row_slot ns n q) (row_noted ns n q) (refl {a = slots})
+    (rest_set slots ns n (record { slot = q; index = index_in ns n }) room)
+    (rest_set slots (row_slot ns n q) q (record { slot = slot_in (row_slot ns n q) q; index = n }) within)

@@ -4,7 +4,8 @@ use Rattle.words.specs.Words.{place_of}
 use Rattle.words.specs.declared.place.Place.{Place}
 use Rattle.words.specs.declared.place.Place.TheVariants.{Young, Old}
 use Rattle.ring.specs.Arcs.{Arcs, take_slot}
-use Rattle.rules.specs.Rules.{Barrier, Sizes, Store, Evacuation, evacuate_into, evacuate_to, evacuated_place, evacuated, visit_register, visit_registers, visit_link, visit_links, visit_noted, visit_copied, rescanning, begin_evacuation, empty_nursery, link_at}
+use Rattle.heap.specs.Evacuating.{visited}
+use Rattle.rules.specs.Rules.{Store, Evacuation, evacuate_into, evacuate_to, evacuated_place, evacuated, visit_register, visit_registers, visit_link, visit_links, visit_noted, visit_copied, begin_evacuation, link_at}
 
 abbrev open_in : Evacuation → Bool
 open_in c = c.store.cycle
@@ -49,9 +50,8 @@ copied again n i (suc fuel) c = go (ltb i (length c.copied)) (copied again n (su
     go true e = e ∙ links again (get_or c.copied i 0) 0 n c
     go false e = refl
 
-pub emptied_cycle : (z : Sizes) (b : Barrier) (s : Store) → (empty_nursery z b s).store.cycle ≡ s.cycle
-emptied_cycle z b s =
-    let again = rescanning b s in
-    let c₁ = visit_registers again 0 z.registers (begin_evacuation s) in
-    let c₂ = visit_noted z.links s.notes c₁ in
-    copied again z.links 0 (length s.nursery) c₂ ∙ noted z.links s.notes c₁ ∙ registers again 0 z.registers (begin_evacuation s)
+pub visited_cycle : (again : Bool) (n : ℕ) (s : Store) → (visited again n s).store.cycle ≡ s.cycle
+visited_cycle again n s =
+    let c₁ = visit_registers again 0 (length s.registers) (begin_evacuation s) in
+    let c₂ = visit_noted n s.notes c₁ in
+    copied again n 0 (length s.nursery) c₂ ∙ noted n s.notes c₁ ∙ registers again 0 (length s.registers) (begin_evacuation s)

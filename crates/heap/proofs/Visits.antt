@@ -1,99 +1,90 @@
--- Visits: a word is read, evacuated and put back; the loops over registers, links, notes and copied records; the whole emptying.
-use Rattle.std.proofs.Common.{◌≡◌, ℕ, zero, suc, ◌+◌, ◌-◌, ◌<◌, ◌≤◌, Bool, false, cond, List, map, length, get_or, take, drop, set, sym, refl, ap, ◌∙◌, add-one, arith, MutBor}
-use Rattle.std.proofs.lemmas.List.{get_or-take, take-map, drop_more}
+-- Visits: a word is read, evacuated and put back; the loops over registers, links, notes and copied records.
+use Rattle.std.proofs.Common.{◌≡◌, ℕ, zero, suc, ◌+◌, ◌-◌, ◌<◌, ◌≤◌, Bool, false, cond, List, map, length, get_or, take, drop, set, sym, refl, ap, ◌∙◌, add-one, arith}
+use Rattle.std.proofs.lemmas.List.{drop_more, get_or-map, length-map}
 use Rattle.std.proofs.lemmas.Bool.{lt-ltb, le-ltb}
 use Rattle.kinds.specs.declared.kind.Kind.{Ghosts}
-use Rattle.rules.specs.Rules.{Evacuation, no_record, with_registers, with_slots, with_link, set_link, evacuated, visit_links, visit_noted, visit_copied}
-use Rattle.heap.specs.declared.heap.Heap.{Heap}
+use Rattle.rules.specs.Rules.{Evacuation as Emptying, with_registers, with_slots, set_link, evacuated, visit_link, visit_links, visit_noted, visit_copied}
+use Rattle.heap.specs.declared.evacuation.Evacuation.{Evacuation}
 use Rattle.heap.specs.declared.rows.Note.{Note}
 use Rattle.heap.specs.Meaning.{meaning_of}
-use Rattle.heap.specs.View.{front, contents, evacuation, Evacuating, noted_slot, no_forward}
-use Rattle.heap.specs.Evacuating.{Stage, shade_visited}
-use Rattle.heap.proofs.Fronts.{take_set_any, length_front, front_at}
-use Rattle.heap.proofs.Evacuations.{row_copied}
-use Rattle.heap.proofs.Stages.{written, stage_trans}
+use Rattle.heap.specs.Rows.{no_forward, no_note}
+use Rattle.heap.specs.Evacuating.{shade_visited}
+use Rattle.heap.specs.Emptying.{emptying, Stage}
+use Rattle.heap.proofs.Fronts.{front_at, length_front}
+use Rattle.heap.proofs.Leaving.{beyond_refl, beyond_then}
+
+pub stage_refl : {X : Type 0} (e : Evacuation X) → Stage e e
+stage_refl e = record { same_slots = refl; same_forward = refl; same_area = refl; same_nursery = refl; slots_long = refl; forward_long = refl; ring_size = refl; beyond = beyond_refl _ }
+
+pub stage_then : {X : Type 0} (a b c : Evacuation X) → Stage a b → Stage b c → Stage a c
+stage_then a b c s t = record {
+  same_slots = t.same_slots ∙ s.same_slots;
+  same_forward = t.same_forward ∙ s.same_forward;
+  same_area = t.same_area ∙ s.same_area;
+  same_nursery = t.same_nursery ∙ s.same_nursery;
+  slots_long = t.slots_long ∙ s.slots_long;
+  forward_long = t.forward_long ∙ s.forward_long;
+  ring_size = t.ring_size ∙ s.ring_size;
+  beyond = beyond_then a.area.now.ring b.area.now.ring c.area.now.ring s.ring_size s.beyond t.beyond;
+}
 
 -- a word put into a register, or into a link of a slot
-abbrev pub with_register : ℕ → ℕ → Evacuation → Evacuation
+abbrev pub with_register : ℕ → ℕ → Emptying → Emptying
 with_register i v c = record { store = with_registers (set c.store.registers i v) c.store; forward = c.forward; copied = c.copied }
 
-abbrev pub with_slot_link : ℕ → ℕ → ℕ → Evacuation → Evacuation
+abbrev pub with_slot_link : ℕ → ℕ → ℕ → Emptying → Emptying
 with_slot_link q k v c = record { store = with_slots (set_link c.store.slots q k v) c.store; forward = c.forward; copied = c.copied }
 
--- a visit: word w is read, v is the word that takes its place, and it is put back and shaded
-pub visited : (rescan : Bool) (put : ℕ → Evacuation → Evacuation) (held w v : ℕ) (c c₁ c₂ c₃ : Evacuation) → w ≡ held → c₁ ≡ (evacuated w c).1 → v ≡ (evacuated w c).0 → c₂ ≡ put v c₁ → c₃ ≡ shade_visited rescan v c₂ → c₃ ≡ shade_visited rescan (evacuated held c).0 (put (evacuated held c).0 (evacuated held c).1)
-visited rescan put held w v c c₁ c₂ c₃ read state word write shaded =
-    shaded
-    ∙ ap (shade_visited rescan v) (write ∙ ap (put v) state)
-    ∙ ap (λ x. shade_visited rescan x (put x (evacuated w c).1)) word
-    ∙ ap (λ x. shade_visited rescan (evacuated x c).0 (put (evacuated x c).0 (evacuated x c).1)) read
-
--- one of the first n records, and its link read and replaced
-front_record : {X : Type 0} (g : Ghosts X) (n q : ℕ) (xs : List X) → q < n → get_or (map (meaning_of g) xs) q no_record ≡ get_or (front (meaning_of g) n xs) q no_record
-front_record g n q xs low = sym (get_or-take n (map (meaning_of g) xs) q no_record low) ∙ ap (λ rs. get_or rs q no_record) (take-map (meaning_of g) n xs)
-
-front_set_link : {X : Type 0} (g : Ghosts X) (n q k v : ℕ) (xs ys : List X) → q < n → map (meaning_of g) ys ≡ set_link (map (meaning_of g) xs) q k v → front (meaning_of g) n ys ≡ set_link (front (meaning_of g) n xs) q k v
-front_set_link g n q k v xs ys low e =
-    sym (take-map (meaning_of g) n ys)
-    ∙ ap (take n) e
-    ∙ take_set_any n (map (meaning_of g) xs) q _
-    ∙ ap (λ rs. set rs q (with_link (get_or (map (meaning_of g) xs) q no_record) k v)) (take-map (meaning_of g) n xs)
-    ∙ ap (λ r. set (front (meaning_of g) n xs) q (with_link r k v)) (front_record g n q xs low)
-
--- the state after such a write
-pub register_written : {X B : Type 0} (g : Ghosts X) (h : Heap X B) (w : MutBor (List ℕ)) (i v : ℕ) → w.now ≡ set h.registers.now i v → evacuation g (written h w h.slots h.forward h.ring h.counts h.copied) ≡ with_register i v (evacuation g h)
-register_written g h w i v e =
-    ap (λ rs. record { store = with_registers rs (contents g h); forward = (evacuation g h).forward; copied = (evacuation g h).copied })
-    (ap (take h.limits.registers) e ∙ take_set_any h.limits.registers h.registers.now i v)
-
-pub slot_written : {X B : Type 0} (g : Ghosts X) (h : Heap X B) (s : MutBor (List X)) (q k v : ℕ) → q < h.limits.slots → map (meaning_of g) s.now ≡ set_link (map (meaning_of g) h.slots.now) q k v → evacuation g (written h h.registers s h.forward h.ring h.counts h.copied) ≡ with_slot_link q k v (evacuation g h)
-slot_written g h s q k v low e =
-    ap (λ rs. record { store = with_slots rs (contents g h); forward = (evacuation g h).forward; copied = (evacuation g h).copied })
-    (front_set_link g h.limits.slots q k v h.slots.now s.now low e)
+-- a visit: word w is read, v is the word that takes its place, and it is shaded and put back
+pub visited : (rescan : Bool) (put : ℕ → Emptying → Emptying) (held w v : ℕ) (c c₁ c₂ : Emptying) → w ≡ held → c₁ ≡ shade_visited rescan v (evacuated w c).1 → v ≡ (evacuated w c).0 → c₂ ≡ put v c₁ → c₂ ≡ put (evacuated held c).0 (shade_visited rescan (evacuated held c).0 (evacuated held c).1)
+visited rescan put held w v c c₁ c₂ read state word write =
+    write
+    ∙ ap (put v) state
+    ∙ ap (λ x. put x (shade_visited rescan x (evacuated w c).1)) word
+    ∙ ap (λ x. put (evacuated x c).0 (shade_visited rescan (evacuated x c).0 (evacuated x c).1)) read
 
 -- a loop of visits: i of n are done, and what is left of the rule, visit i (n − i), leads to what is to be shown
-pub record Visiting {X B : Type 0} (g : Ghosts X) (visit : ℕ → ℕ → Evacuation → Evacuation) (n i : ℕ) (was is : Heap X B) : Type 0 where
+pub record Visiting {X : Type 0} (g : Ghosts X) (visit : ℕ → ℕ → Emptying → Emptying) (n i : ℕ) (was is : Evacuation X) : Type 0 where
   pub stage : Stage was is
-  pub rest : visit i (n - i) (evacuation g is) ≡ visit 0 n (evacuation g was)
+  pub rest : (rs ns : List ℕ) → visit i (n - i) (emptying g rs ns is) ≡ visit 0 n (emptying g rs ns was)
 
-pub visiting_more : {X B : Type 0} (g : Ghosts X) (visit : ℕ → ℕ → Evacuation → Evacuation) (n i : ℕ) (was h is : Heap X B) → i < n → Visiting g visit n i was h → Stage h is → ((m : ℕ) → visit i (suc m) (evacuation g h) ≡ visit (suc i) m (evacuation g is)) → Visiting g visit n (i + 1) was is
-visiting_more g visit n i was h is low v s turn =
+-- one turn of such a loop, for an evacuation of any registers
+pub turned : (visit : ℕ → ℕ → Emptying → Emptying) (n i : ℕ) (was at next : Emptying) → i < n → visit i (n - i) at ≡ visit 0 n was → ((m : ℕ) → visit i (suc m) at ≡ visit (suc i) m next) → visit (i + 1) (n - (i + 1)) next ≡ visit 0 n was
+turned visit n i was at next low rest turn =
     let one_less : suc (n - (i + 1)) ≡ n - i = omega arith in
-    record {
-      stage = stage_trans was h is v.stage s;
-      rest = ap (λ j. visit j (n - (i + 1)) (evacuation g is)) (add-one i) ∙ sym (turn (n - (i + 1))) ∙ ap (λ m. visit i m (evacuation g h)) one_less ∙ v.rest;
-    }
+    ap (λ j. visit j (n - (i + 1)) next) (add-one i) ∙ sym (turn (n - (i + 1))) ∙ ap (λ m. visit i m at) one_less ∙ rest
+
+pub visiting_more : {X : Type 0} (g : Ghosts X) (visit : ℕ → ℕ → Emptying → Emptying) (n i : ℕ) (was e is : Evacuation X) → i < n → Visiting g visit n i was e → Stage e is → ((rs ns : List ℕ) (m : ℕ) → visit i (suc m) (emptying g rs ns e) ≡ visit (suc i) m (emptying g rs ns is)) → Visiting g visit n (i + 1) was is
+visiting_more g visit n i was e is low v s turn = record {
+  stage = stage_then was e is v.stage s;
+  rest = λ rs ns. turned visit n i (emptying g rs ns was) (emptying g rs ns e) (emptying g rs ns is) low (v.rest rs ns) (turn rs ns);
+}
 
 -- the noted records: those from the i-th on, however many
-abbrev pub visit_notes : ℕ → List ℕ → ℕ → ℕ → Evacuation → Evacuation
+abbrev pub visit_notes : ℕ → List ℕ → ℕ → ℕ → Emptying → Emptying
 visit_notes n notes i m c = visit_noted n (drop i notes) c
 
-notes_length : {X B : Type 0} (g : Ghosts X) (h : Heap X B) → Evacuating h → length (contents g h).notes ≡ h.noted
-notes_length g h e = length_front (λ n. n.slot) h.noted h.notes.now (omega (arith, e.kept.noted_low, e.kept.long))
-
-pub noted_turn : {X B : Type 0} (g : Ghosts X) (i : ℕ) (was h is : Heap X B) → Evacuating was → i < was.noted → Stage was h → evacuation g is ≡ visit_links false (noted_slot h i) 0 g.count (evacuation g h) → visit_noted g.count (drop i (contents g was).notes) (evacuation g h) ≡ visit_noted g.count (drop (suc i) (contents g was).notes) (evacuation g is)
-noted_turn g i was h is sound low s e =
-    let notes = (contents g was).notes in
-    let slot_is : get_or notes i 0 ≡ noted_slot h i =
-    front_at (λ n. n.slot) was.noted was.notes.now i (record { slot = 0; index = 0 }) 0 low (omega (arith, sound.kept.noted_low, sound.kept.long))
-    ∙ ap (λ (ns : List Note). (get_or ns i (record { slot = 0; index = 0 })).slot) (sym s.same_notes) in
-    ap (λ qs. visit_noted g.count qs (evacuation g h)) (drop_more notes i 0 (omega (arith, low, notes_length g was sound)))
-    ∙ ap (visit_noted g.count (drop (i + 1) notes)) (ap (λ q. visit_links false q 0 g.count (evacuation g h)) slot_is ∙ sym e)
-    ∙ ap (λ j. visit_noted g.count (drop j notes) (evacuation g is)) (add-one i)
+pub noted_turn : (n : ℕ) (notes : List Note) (i : ℕ) (c d : Emptying) → i < length notes → d ≡ visit_links false (get_or notes i no_note).slot 0 n c → visit_noted n (drop i (map (λ x. x.slot) notes)) c ≡ visit_noted n (drop (suc i) (map (λ x. x.slot) notes)) d
+noted_turn n notes i c d low e =
+    let slots = map (λ (x : Note). x.slot) notes in
+    let slot_is : get_or slots i 0 ≡ (get_or notes i no_note).slot = get_or-map (λ (x : Note). x.slot) notes i no_note 0 low in
+    ap (λ qs. visit_noted n qs c) (drop_more slots i 0 (omega (arith, low, length-map notes (λ (x : Note). x.slot))))
+    ∙ ap (visit_noted n (drop (i + 1) slots)) (ap (λ q. visit_links false q 0 n c) slot_is ∙ sym e)
+    ∙ ap (λ j. visit_noted n (drop j slots) d) (add-one i)
 
 -- the copied records: as many are queued as were copied
-pub queue_length : {X B : Type 0} (g : Ghosts X) (h : Heap X B) → Evacuating h → length (evacuation g h).copied ≡ h.copied
-queue_length g h e = length_front (λ f. f.copied) h.copied h.forward.now (omega (arith, e.moved, e.kept.used_low, e.kept.long))
+pub queue_length : {X : Type 0} (g : Ghosts X) (rs ns : List ℕ) (e : Evacuation X) → e.copied ≤ length e.forward.now → length (emptying g rs ns e).copied ≡ e.copied
+queue_length g rs ns e low = length_front (λ f. f.copied) e.copied e.forward.now low
 
-pub copied_turn : {X B : Type 0} (g : Ghosts X) (rescan : Bool) (i : ℕ) (h is : Heap X B) → Evacuating h → i < h.copied → evacuation g is ≡ visit_links rescan (get_or h.forward.now i no_forward).copied 0 g.count (evacuation g h) → (m : ℕ) → visit_copied rescan g.count i (suc m) (evacuation g h) ≡ visit_copied rescan g.count (suc i) m (evacuation g is)
-copied_turn g rescan i h is sound low e m =
+pub copied_turn : {X : Type 0} (g : Ghosts X) (rescan : Bool) (i : ℕ) (e : Evacuation X) (rs ns : List ℕ) (d : Emptying) → e.copied ≤ length e.forward.now → i < e.copied → d ≡ visit_links rescan (get_or e.forward.now i no_forward).copied 0 g.count (emptying g rs ns e) → (m : ℕ) → visit_copied rescan g.count i (suc m) (emptying g rs ns e) ≡ visit_copied rescan g.count (suc i) m d
+copied_turn g rescan i e rs ns d long low is m =
     let n = g.count in
-    let c = evacuation g h in
-    let slot_is : get_or c.copied i 0 ≡ (get_or h.forward.now i no_forward).copied = row_copied h.copied i h.forward.now low (omega (arith, sound.moved, sound.kept.used_low, sound.kept.long)) in
-    ap (λ t. cond t (visit_copied rescan n (suc i) m (visit_links rescan (get_or c.copied i 0) 0 n c)) c) (lt-ltb i (length c.copied) (omega (arith, low, queue_length g h sound)))
-    ∙ ap (visit_copied rescan n (suc i) m) (ap (λ q. visit_links rescan q 0 n c) slot_is ∙ sym e)
+    let c = emptying g rs ns e in
+    let slot_is : get_or c.copied i 0 ≡ (get_or e.forward.now i no_forward).copied = front_at (λ f. f.copied) e.copied e.forward.now i no_forward 0 low long in
+    ap (λ t. cond t (visit_copied rescan n (suc i) m (visit_links rescan (get_or c.copied i 0) 0 n c)) c) (lt-ltb i (length c.copied) (omega (arith, low, queue_length g rs ns e long)))
+    ∙ ap (visit_copied rescan n (suc i) m) (ap (λ q. visit_links rescan q 0 n c) slot_is ∙ sym is)
 
-pub copied_end : (rescan : Bool) (n i m : ℕ) (c : Evacuation) → length c.copied ≤ i → c ≡ visit_copied rescan n i m c
+pub copied_end : (rescan : Bool) (n i m : ℕ) (c : Emptying) → length c.copied ≤ i → c ≡ visit_copied rescan n i m c
 copied_end rescan n i zero c high = refl
 copied_end rescan n i (suc m) c high =
     ap (λ t. cond t (visit_copied rescan n (suc i) m (visit_links rescan (get_or c.copied i 0) 0 n c)) c) (sym (le-ltb i (length c.copied) high))

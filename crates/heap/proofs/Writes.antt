@@ -4,7 +4,7 @@ use Rattle.std.proofs.lemmas.List.{take-map}
 use Rattle.rules.specs.Rules.{Record, no_record, with_link, set_link, link_at}
 use Rattle.kinds.specs.declared.kind.Kind.{Ghosts}
 use Rattle.heap.specs.Meaning.{meaning_of}
-use Rattle.heap.specs.View.{front}
+use Rattle.heap.specs.Rows.{front}
 use Rattle.heap.proofs.Cycles.{front_record}
 use Rattle.heap.proofs.Fronts.{take_set_any}
 

@@ -2,10 +2,13 @@ pub mod Opening
 pub mod State
 pub mod Answers
 pub mod Meaning
+pub mod Rows
+pub mod Keeping
+pub mod Areas
 pub mod View
 pub mod Lent
 pub mod Evacuating
-pub mod Carrying
+pub mod Emptying
 pub mod Scans
 pub mod Collecting
 pub mod Tallies

@@ -15,26 +15,26 @@ scanned_one s = with_arcs (unwrap_or (scan_one s.slots s.arcs) s.arcs) s
 abbrev pub scanned_upto : ℕ → Store → Store
 scanned_upto k s = with_arcs (scan_upto s.slots k s.arcs).0 s
 
--- the store in which slots are scanned: a cycle is opened unless one was open
-abbrev pub with_open_cycle : Bool → Store → Store
-with_open_cycle was-open s = cond was-open s (open_cycle s)
+-- the store in which slots are scanned: a cycle is opened unless one is open
+abbrev pub with_open_cycle : Store → Store
+with_open_cycle s = cond s.cycle s (open_cycle s)
 
--- the store once an open cycle is finished, of n slots: the store then, how many scans that made, and how many slots it freed
-abbrev pub finished : Bool → ℕ → Store → Store
-finished was-open n s = cond was-open (scan_and_close n s) s
+-- the store once a cycle that is open is finished, of n slots: the store then, how many scans that made, and how many slots it freed
+abbrev pub finished : ℕ → Store → Store
+finished n s = cond s.cycle (scan_and_close n s) s
 
-abbrev pub scans_finishing : Bool → ℕ → Store → ℕ
-scans_finishing was-open n s = cond was-open (scans_made n s) 0
+abbrev pub scans_finishing : ℕ → Store → ℕ
+scans_finishing n s = cond s.cycle (scans_made n s) 0
 
-abbrev pub freed_finishing : Bool → ℕ → Store → ℕ
-freed_finishing was-open n s = cond was-open (freed_after n s) 0
+abbrev pub freed_finishing : ℕ → Store → ℕ
+freed_finishing n s = cond s.cycle (freed_after n s) 0
 
 -- the store once another cycle was opened and finished after it, and what both did together
-abbrev pub collected_all : Bool → ℕ → Store → Store
-collected_all was-open n s = scan_and_close n (open_cycle (finished was-open n s))
+abbrev pub collected_all : ℕ → Store → Store
+collected_all n s = scan_and_close n (open_cycle (finished n s))
 
-abbrev pub scans_of_all : Bool → ℕ → Store → ℕ
-scans_of_all was-open n s = scans_finishing was-open n s + scans_made n (open_cycle (finished was-open n s))
+abbrev pub scans_of_all : ℕ → Store → ℕ
+scans_of_all n s = scans_finishing n s + scans_made n (open_cycle (finished n s))
 
-abbrev pub freed_of_all : Bool → ℕ → Store → ℕ
-freed_of_all was-open n s = freed_finishing was-open n s + freed_after n (open_cycle (finished was-open n s))
+abbrev pub freed_of_all : ℕ → Store → ℕ
+freed_of_all n s = freed_finishing n s + freed_after n (open_cycle (finished n s))

@@ -1,9 +1,10 @@
-// The tables and counts of a store. The calls on them need the heap to be sound; every store has a sound one.
+// The tables and counts of a store, and the calls on them.
+ghost use Rattle.std.specs.Prelude.{length};
+ghost use Rattle.heap.specs.Keeping.{Kept};
 
 pub mod collecting;
 pub mod cycle;
-pub mod evacuate;
-pub mod full;
+pub mod emptying;
 pub mod links;
 pub mod making;
 pub mod opening;
@@ -11,36 +12,31 @@ pub mod places;
 pub mod record_calls;
 pub mod register_calls;
 pub mod remember;
-pub mod shading;
-pub mod step;
 pub mod tables;
 pub mod tally;
-pub mod visits;
 pub mod write;
 pub mod writing;
 
-use crate::counts::Counts;
+use crate::area::Area;
 use crate::rows::{Forward, Note};
-use kinds::barrier::Barrier;
 use kinds::fault::StoreFault;
-use kinds::kind::Kind;
 use registers::sizes::Limits;
-use ring::ring::Ring;
 
-// `used` nursery places hold records, `noted` note rows stand, and `copied` records were copied in the step under way.
+// `used` nursery places hold records, and `noted` note rows stand. (The tables are lent and of a fixed size, since a store
+// takes no memory of its own; so their counts stand beside them. A closed heap has sizes of 0, so that what holds of an open
+// heap's tables holds of it too.)
 #[derive(Drop)]
-pub struct Heap<'a, T: Kind, B: Barrier> {
+pub struct Heap<'a, T, B> {
     nursery: &'a mut [T],
     slots: &'a mut [T],
     registers: &'a mut [u32],
     forward: &'a mut [Forward],
     notes: &'a mut [Note],
-    ring: Ring<'a>,
+    area: Area<'a>,
     limits: Limits,
-    counts: Counts,
     used: u32,
     noted: u32,
-    copied: u32,
     status: Result<(), StoreFault>,
     barrier: B,
+    pub ghost kept: { Kept limits (length nursery.now) (length slots.now) (length registers.now) (length forward.now) notes.now area.ring used noted },
 }

@@ -1,10 +1,10 @@
-// The heap of a store: records in a nursery and an old area over lent tables, and the calls on them. The calls ask for a
-// sound heap and leave one.
+// The heap of a store: records in a nursery and an old area over lent tables, and the calls on them.
 #![tactic(auto)]
 
 pub use registers::{seen, sizes};
 
-pub mod counts;
+mod area;
+mod evacuation;
 pub mod heap;
 pub mod records;
 pub mod rows;

@@ -7,7 +7,7 @@ use kinds::weighed::Weighed;
 use std::fmt;
 
 // How many flushes there are along a chain, and the sum of their weights in milligrams.
-#[derive(Clone, Copy, PartialEq, Eq, Debug)]
+#[derive(Clone, Copy, PartialEq, Eq, Debug, Default)]
 pub struct Tally {
     pub flushes: u32,
     pub weight: u64,

@@ -48,8 +48,6 @@ impl<B: Barrier> RegisterTable for Heap<'_, B> {
 
     ghost answers = { B.Barrier.answers };
 
-    ghost sound = { λ h. Unit {0} };
-
     ghost frame = { Beyond };
 
     ghost why_is = { λ h. refl };

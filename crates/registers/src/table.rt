@@ -22,17 +22,14 @@ fn classify(w: u32) -> Seen
     }
 }
 
-// A heap with registers. `state` is what it holds, `status` why it is closed, `answers` what its barrier names; `sound` holds
-// of it between calls, and `frame` says what no call alters. `sound` is asked for and no invariant of the type, since within
-// a call of the heap of records less holds.
+// A heap with registers. `state` is what it holds, `status` why it is closed, `answers` what its barrier names, and
+// `frame` says what no call alters.
 pub trait RegisterTable {
     ghost state: { Self → State };
 
     ghost status: { Self → Result (Unit {0}) StoreFault };
 
     ghost answers: { Barrier };
-
-    ghost sound: { Self → Type 0 };
 
     ghost frame: { Self → Self → Type 0 };
 
@@ -47,15 +44,12 @@ pub trait RegisterTable {
 
     // The word in register i.
     fn word_in(&self, i: usize) -> u32
-        requires sound { sound self.now }
         requires low { i < (state self.now).sizes.registers }
         ensures { result ≡ slice_index (state self.now).store.registers i };
 
     // Puts a word into register i.
     fn put_word(&mut self, i: usize, w: u32)
-        requires sound { sound self.old }
         requires low { i < (state self.old).sizes.registers }
-        ensures sound { sound self.new }
         ensures state { state self.new ≡ with_store (state self.old) (with_registers (slice_set (state self.old).store.registers i w) (state self.old).store) }
         ensures frame { frame self.old self.new };
 
@@ -87,8 +81,6 @@ pub trait RegisterTable {
 
     // Puts the number v into register r.
     final fn load(&mut self, r: i64, v: i64) -> Result<(), StoreFault>
-        requires { sound self.old }
-        ensures sound { sound self.new }
         ensures state { state self.new ≡ after answers (state self.old) (load r v) }
         ensures told { told_done result ≡ answer answers (state self.old) (load r v) }
         ensures frame { frame self.old self.new }
@@ -101,8 +93,6 @@ pub trait RegisterTable {
 
     // Puts nothing into register r.
     final fn empty(&mut self, r: i64) -> Result<(), StoreFault>
-        requires { sound self.old }
-        ensures sound { sound self.new }
         ensures state { state self.new ≡ after answers (state self.old) (empty r) }
         ensures told { told_done result ≡ answer answers (state self.old) (empty r) }
         ensures frame { frame self.old self.new }
@@ -114,8 +104,6 @@ pub trait RegisterTable {
 
     // Puts what register s holds into register d.
     final fn copy(&mut self, d: i64, s: i64) -> Result<(), StoreFault>
-        requires { sound self.old }
-        ensures sound { sound self.new }
         ensures state { state self.new ≡ after answers (state self.old) (copy d s) }
         ensures told { told_done result ≡ answer answers (state self.old) (copy d s) }
         ensures frame { frame self.old self.new }
@@ -129,8 +117,6 @@ pub trait RegisterTable {
 
     // Whether two registers hold the same word; alters nothing.
     final fn same(&mut self, a: i64, b: i64) -> Result<bool, StoreFault>
-        requires { sound self.old }
-        ensures sound { sound self.new }
         ensures still { state self.new ≡ state self.old }
         ensures state { state self.new ≡ after answers (state self.old) (same a b) }
         ensures told { told_flag result ≡ answer answers (state self.old) (same a b) }
@@ -143,8 +129,6 @@ pub trait RegisterTable {
 
     // What register r holds: nothing, a number or a record; alters nothing.
     final fn look(&mut self, r: i64) -> Result<Seen, StoreFault>
-        requires { sound self.old }
-        ensures sound { sound self.new }
         ensures still { state self.new ≡ state self.old }
         ensures state { state self.new ≡ after answers (state self.old) (look r) }
         ensures told { told_seen result ≡ answer answers (state self.old) (look r) }

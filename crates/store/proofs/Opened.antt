@@ -19,7 +19,8 @@ use Rattle.registers.specs.Opening.{from_one_to, natural, sizes_in_range}
 use Rattle.heap.specs.Opening.{tables_long, why_of}
 use Rattle.registers.specs.State.{sizes_of}
 use Rattle.heap.specs.State.{open_at, closed_state, opened}
-use Rattle.heap.specs.View.{contents, view, Rest, Frame}
+use Rattle.heap.specs.View.{contents, view, Frame}
+use Rattle.heap.specs.Rows.{Rest}
 use Rattle.heap.specs.Lent.{Lent}
 use Rattle.store.specs.declared.call.Call.{Call}
 use Rattle.store.specs.Calls.{Outcome, call_of, told_call, AllAnswered, after_all}
@@ -67,12 +68,12 @@ slots_counted g z t e =
     length-map (take n t.slots.now) (meaning_of g) ∙ omega (arith, length-take n t.slots.now, long)
 
 -- the promise of a run
-pub run_promised : {X B : Type 0} (g : Ghosts X) (b : Barrier) (z : Asked) (t : Tables X) (h : Heap X B) (cs : List (Call X)) (rs : List (Outcome X)) → g.count ≤ 8 → Lawful b → Fine h.ring → AllAnswered g b (opened g z t) cs rs → view g h ≡ after_all g b (opened g z t) cs → why_of z t ≡ 0 → Promised g b (sizes_of g.count z) (slots_lent g z t) (map (call_of g) cs) (map (told_call g) rs) h
+pub run_promised : {X B : Type 0} (g : Ghosts X) (b : Barrier) (z : Asked) (t : Tables X) (h : Heap X B) (cs : List (Call X)) (rs : List (Outcome X)) → g.count ≤ 8 → Lawful b → Fine h.area.ring → AllAnswered g b (opened g z t) cs rs → view g h ≡ after_all g b (opened g z t) cs → why_of z t ≡ 0 → Promised g b (sizes_of g.count z) (slots_lent g z t) (map (call_of g) cs) (map (told_call g) rs) h
 run_promised g b z t h cs rs few lawful fine answered state e =
     record {
       by_the_book = answers_by_book g s b j (λ before c. (kept before).agrees c) cs rs answered';
       by_the_rules = left;
-      linked = fine_linked h.ring fine;
+      linked = fine_linked h.area.ring fine;
       in_use = subst (λ x. Faithful s (record { store = x; book = end.book; nursery_owners = end.nursery_owners; slot_owners = end.slot_owners })) (sym left) (kept calls).faithful;
       room = λ L live big. never_23 g s b j cs rs answered' ((kept calls).room L live big);
       fronts = λ before rest _. kept before;
@@ -109,7 +110,7 @@ run_promised g b z t h cs rs few lawful fine answered state e =
     left = ap (λ x. x.store) (state ∙ ap (λ x. after_all g b x cs) start ∙ runs_by_rules g s b j cs)
 
 -- what was lent and no call alters
-pub untouched_by : {X B : Type 0} (t : Tables X) (h k : Heap X B) → slots_of h.ring ≡ h.limits.slots → Lent t h → Frame h k → Untouched t k
+pub untouched_by : {X B : Type 0} (t : Tables X) (h k : Heap X B) → slots_of h.area.ring ≡ h.limits.slots → Lent t h → Frame h k → Untouched t k
 untouched_by t h k size l f = record {
   nursery_rest = rested (ap (λ x. x.places) f.same_limits) l.nursery_same f.nursery_rest;
   slots_rest = rested (ap (λ x. x.slots) f.same_limits) l.slots_same f.slots_rest;
@@ -131,7 +132,7 @@ untouched_by t h k size l f = record {
     ring_on {m} {n} {q} {xs} {ys} {zs} e e₁ a r = rest_on e a (subst (λ i. Rest i ys zs) e₁ (record { rest = r.rest; size = r.long }))
 
 -- a run of which the calls were made: h₀ is the heap when it was opened, h the heap at the end
-pub run_of : {X B : Type 0} (g : Ghosts X) (b : Barrier) (z : Asked) (t : Tables X) (h₀ h : Heap X B) (made calls : List (Call X)) (M : Type 0) (was reserved is : List (Outcome X)) → g.count ≤ 8 → Lawful b → Fine h.ring → slots_of h₀.ring ≡ h₀.limits.slots → view g h₀ ≡ opened g z t → Lent t h₀ → Frame h₀ h → reserved ≡ was → Ran g b (view g h₀) made reserved is h → (made ≡ calls) ⊎ (made ≡ []) → (M → made ≡ calls) → RunOf g b z t calls M was is h
+pub run_of : {X B : Type 0} (g : Ghosts X) (b : Barrier) (z : Asked) (t : Tables X) (h₀ h : Heap X B) (made calls : List (Call X)) (M : Type 0) (was reserved is : List (Outcome X)) → g.count ≤ 8 → Lawful b → Fine h.area.ring → slots_of h₀.area.ring ≡ h₀.limits.slots → view g h₀ ≡ opened g z t → Lent t h₀ → Frame h₀ h → reserved ≡ was → Ran g b (view g h₀) made reserved is h → (made ≡ calls) ⊎ (made ≡ []) → (M → made ≡ calls) → RunOf g b z t calls M was is h
 run_of g b z t h₀ h made calls M was reserved is few lawful fine size begun lent frame same ran either with-memory =
     record {
       made = made;

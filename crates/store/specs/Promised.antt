@@ -15,7 +15,8 @@ use Rattle.registers.specs.Opening.{natural}
 use Rattle.heap.specs.Opening.{why_of}
 use Rattle.registers.specs.State.{State, sizes_of}
 use Rattle.heap.specs.State.{opened}
-use Rattle.heap.specs.View.{contents, view, Rest}
+use Rattle.heap.specs.View.{contents, view}
+use Rattle.heap.specs.Rows.{Rest}
 use Rattle.store.specs.declared.call.Call.{Call}
 use Rattle.store.specs.Calls.{Outcome, call_of, told_call, AllAnswered, after_all}
 
@@ -35,7 +36,7 @@ pub record Promised {X B : Type 0} (g : Ghosts X) (b : Barrier) (z : Sizes) (slo
   -- the tables hold the store that the rules define
   pub by_the_rules : contents g h ≡ (history_run z b (new_history z slots) calls).store
   -- the slots form one ring in the ring's tables, linked both ways: free, white, grey, black
-  pub linked : LinkedRing h.ring
+  pub linked : LinkedRing h.area.ring
   -- each register stands for the book's word, and every reachable record has its place in the tables
   pub in_use : Faithful z (at_tables g h (history_run z b (new_history z slots) calls))
   -- a store made to size for L reachable records never lacks room
@@ -57,9 +58,9 @@ pub record Untouched {X B : Type 0} (t : Tables X) (h : Heap X B) : Type 0 where
   pub registers_rest : Rest h.limits.registers t.registers.now h.registers.now
   pub forward_rest : Rest h.limits.places t.forward.now h.forward.now
   pub notes_rest : Rest h.limits.slots t.notes.now h.notes.now
-  pub next_rest : Rest h.limits.slots t.next.now h.ring.next
-  pub previous_rest : Rest h.limits.slots t.previous.now h.ring.prev
-  pub stamp_rest : Rest h.limits.slots t.stamp.now h.ring.stamp
+  pub next_rest : Rest h.limits.slots t.next.now h.area.ring.next
+  pub previous_rest : Rest h.limits.slots t.previous.now h.area.ring.prev
+  pub stamp_rest : Rest h.limits.slots t.stamp.now h.area.ring.stamp
 
 -- the records that the slots have when the tables are lent, which may be any
 abbrev pub slots_lent : {X : Type 0} → Ghosts X → Asked → Tables X → List Record

@@ -1,7 +1,7 @@
 // The store: its calls over lent tables, one by one and as a list.
 #![tactic(auto)]
 
-pub use heap::{counts, rows, seen, sizes, stepped};
+pub use heap::{rows, seen, sizes, stepped};
 
 pub mod call;
 pub mod calling;

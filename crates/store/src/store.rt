@@ -1,6 +1,6 @@
-// The store: a heap that is sound, and its calls, which refuse what is out of range.
+// The store: a heap, and its calls, which refuse what is out of range.
 ghost use Rattle.std.specs.Prelude.{◌≡◌, ◌≤◌, true, false, replicate, IfOk, MatchResult, OnOk};
-ghost use Rattle.ring.specs.View.{Fine, slots_of, is_open_of};
+ghost use Rattle.ring.specs.View.{is_open_of};
 ghost use Rattle.rules.specs.Rules.{load, empty, copy, make, read, write, fill, plain, same, look, tell, step, full};
 ghost use Rattle.rules.specs.Chains.{FollowedToTheEnd, TallyIsTheBooks};
 ghost use Rattle.registers.specs.Answers.{seen_in_range, told_done, told_flag, told_seen, told_why};
@@ -10,7 +10,7 @@ ghost use Rattle.heap.specs.Lent.{Lent};
 ghost use Rattle.registers.specs.State.{after, answer};
 ghost use Rattle.heap.specs.State.{opened};
 ghost use Rattle.heap.specs.Tallies.{ByChain, answer_tally, told_tally};
-ghost use Rattle.heap.specs.View.{view, Frame, LongEnough, Counted, Remembered};
+ghost use Rattle.heap.specs.View.{view, Frame};
 
 use heap::heap::Heap;
 use heap::heap::tables::Tables;
@@ -28,16 +28,6 @@ use ring::arcs::Lengths;
 #[derive(Drop)]
 pub struct Store<'a, T: Kind, B: Barrier> {
     heap: Heap<'a, T, B>,
-    ghost long: { LongEnough heap },
-    ghost fine: { Fine heap.ring },
-    ghost ring_size: { slots_of heap.ring ≡ heap.limits.slots },
-    ghost counted: { Counted heap },
-    ghost used_low: { heap.used ≤ heap.limits.places },
-    ghost noted_low: { heap.noted ≤ heap.limits.slots },
-    ghost remembered: { Remembered heap },
-    ghost few_slots: { heap.limits.slots ≤ 16384 },
-    ghost few_places: { heap.limits.places ≤ 1024 },
-    ghost waiting: { heap.counts.nursery ≡ heap.used },
 }
 
 impl<'a, T: Kind, B: Barrier> Store<'a, T, B> {
@@ -182,7 +172,7 @@ impl<T: Kind, B: Barrier> Store<'_, T, B> {
     pub fn full(&mut self) -> Result<Stepped, StoreFault>
         ensures state { view T.Kind self.new.heap ≡ after B.Barrier.answers (view T.Kind self.old.heap) full }
         ensures told { told_step result ≡ answer B.Barrier.answers (view T.Kind self.old.heap) full }
-        ensures shut { OnOk result (is_open_of self.new.heap.ring ≡ false) }
+        ensures shut { OnOk result (is_open_of self.new.heap.area.ring ≡ false) }
         ensures frame { Frame self.old.heap self.new.heap }
     {
         self.heap.full()

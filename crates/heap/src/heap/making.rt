@@ -4,8 +4,8 @@ ghost use Rattle.words.specs.Words.{nursery_word};
 ghost use Rattle.rules.specs.Rules.{make, in_range, index, all_in, links_from, with_nursery};
 ghost use Rattle.heap.specs.Answers.{room_at, open_make_index, told_count};
 ghost use Rattle.heap.specs.Meaning.{meaning_of};
+ghost use Rattle.ring.specs.View.{arcs_of};
 ghost use Rattle.registers.specs.State.{after, answer, with_store};
-ghost use Rattle.heap.specs.View.{view, Sound, Frame};
 
 use crate::heap::Heap;
 use crate::records::put_at;
@@ -36,31 +36,24 @@ fn all_below(numbers: &[i64], n: usize) -> bool
     true
 }
 
-// The index that a number from 0 on is; 0 for any other.
+// The index that a number from 0 on is; 0 for any other. (`is_below` has tested all of them before: a refusal alters nothing.)
 fn index_of(v: i64) -> usize
     ensures { result ≡ index v }
 {
     usize::try_from(v).unwrap_or(0)
 }
 
-// The word of a place of the nursery, which has at most 1,024.
-fn young_word(p: u32) -> u32
-    requires { p < 1024 }
-    ensures { result ≡ nursery_word p }
-{
-    nursery_word(p).unwrap()
-}
-
 impl<T: Kind, B: Barrier> Heap<'_, T, B> {
+    ghost use Rattle.heap.specs.View.{view, Frame};
+
     // Refuses where the nursery is full, or where a nursery record more would have no slot.
     fn room(&self) -> Result<(), StoreFault>
-        requires { Sound self.now }
         ensures { result ≡ room_at (view T.Kind self.now).sizes (view T.Kind self.now).store }
     {
         if self.used >= self.limits.places {
             return Err(StoreFault::NurseryFull);
         }
-        if !self.counts.has_room() {
+        if !self.area.has_room(self.used) {
             return Err(StoreFault::NoRoom);
         }
         Ok(())
@@ -68,7 +61,6 @@ impl<T: Kind, B: Barrier> Heap<'_, T, B> {
 
     // The index of register d of an open store, if a record may be made for it of the given registers.
     fn may_make(&self, d: i64, links: &[i64]) -> Result<usize, StoreFault>
-        requires { Sound self.now }
         ensures { result ≡ open_make_index self.now.status (view T.Kind self.now).sizes (view T.Kind self.now).store d links.now }
     {
         let i = self.open_register(d)?;
@@ -84,7 +76,6 @@ impl<T: Kind, B: Barrier> Heap<'_, T, B> {
 
     // The template with the words of the given registers as its links.
     fn linked(&self, template: &T, links: &[i64]) -> T
-        requires sound { Sound self.now }
         requires below { all_in links.now self.now.limits.registers ≡ true }
         requires counted { length links.now ≡ T.Kind.count }
         ensures links { T.Kind.links result ≡ links_from (view T.Kind self.now).store links.now }
@@ -100,30 +91,25 @@ impl<T: Kind, B: Barrier> Heap<'_, T, B> {
 
     // Puts a record at the next place of the nursery.
     fn add_record(&mut self, made: T)
-        requires sound { Sound self.old }
         requires place { self.old.used < self.old.limits.places }
-        requires slot { self.old.counts.occupied + self.old.counts.nursery < self.old.counts.slots }
-        ensures sound { Sound self.new }
+        requires slot { self.old.used < length (arcs_of self.old.area.ring).free }
         ensures state { view T.Kind self.new ≡ with_store (view T.Kind self.old) (with_nursery ((view T.Kind self.old).store.nursery ++ (meaning_of T.Kind made ∷ [])) (view T.Kind self.old).store) }
         ensures frame { Frame self.old self.new }
     {
         let p = self.used;
         put_at(self.nursery, p as usize, made);
         self.used = p + 1;
-        self.counts.count_made();
     }
 
     // Makes a record of a template's plain part and the words of the given registers, and puts it into register d. Says how
     // many records the nursery then has.
     pub fn make(&mut self, d: i64, template: &T, links: &[i64]) -> Result<u32, StoreFault>
-        requires { Sound self.old }
-        ensures sound { Sound self.new }
         ensures state { view T.Kind self.new ≡ after B.Barrier.answers (view T.Kind self.old) (make d (T.Kind.plain template.now) links.now) }
         ensures told { told_count result ≡ answer B.Barrier.answers (view T.Kind self.old) (make d (T.Kind.plain template.now) links.now) }
         ensures frame { Frame self.old self.new }
     {
         let i = self.may_make(d, links)?;
-        let w = young_word(self.used);
+        let w = nursery_word(self.used).unwrap();
         let made = self.linked(template, links);
         self.add_record(made);
         self.put_word(i, w);

@@ -2,7 +2,6 @@
 ghost use Rattle.std.specs.Prelude.{◌≡◌, ◌<◌, length, IfSome, IfOk};
 ghost use Rattle.rules.specs.Rules.{place_in};
 ghost use Rattle.heap.specs.Answers.{held_place, open_record_place, link_place, is_within, Within};
-ghost use Rattle.heap.specs.View.{view, Sound};
 
 use crate::heap::Heap;
 use kinds::barrier::Barrier;
@@ -13,6 +12,8 @@ use words::place::Place;
 use words::word::place_of;
 
 impl<T: Kind, B: Barrier> Heap<'_, T, B> {
+    ghost use Rattle.heap.specs.View.{view};
+
     // Whether a place is a used one of the nursery or a slot of the store.
     fn is_within(&self, at: Place) -> bool
         ensures { result ≡ is_within self.now.used self.now.limits.slots at }
@@ -25,7 +26,6 @@ impl<T: Kind, B: Barrier> Heap<'_, T, B> {
 
     // Where a word leads; a word that leads outside the store leads nowhere.
     pub(crate) fn place_in(&self, w: u32) -> Option<Place>
-        requires { Sound self.now }
         ensures place { result ≡ place_in (view T.Kind self.now).sizes (length (view T.Kind self.now).store.nursery) w }
         ensures within { IfSome result (Within self.now.used self.now.limits.slots) }
     {
@@ -35,7 +35,6 @@ impl<T: Kind, B: Barrier> Heap<'_, T, B> {
 
     // The place of the record that the register with index i holds.
     pub(crate) fn held_place(&self, i: usize) -> Result<Place, StoreFault>
-        requires sound { Sound self.now }
         requires low { i < self.now.limits.registers }
         ensures place { result ≡ held_place (view T.Kind self.now).sizes (view T.Kind self.now).store i }
         ensures within { IfOk result (Within self.now.used self.now.limits.slots) }
@@ -45,7 +44,6 @@ impl<T: Kind, B: Barrier> Heap<'_, T, B> {
 
     // The place of the record that register r of an open store holds.
     pub(crate) fn record_place(&self, r: i64) -> Result<Place, StoreFault>
-        requires { Sound self.now }
         ensures place { result ≡ open_record_place self.now.status (view T.Kind self.now).sizes (view T.Kind self.now).store r }
         ensures within { IfOk result (Within self.now.used self.now.limits.slots) }
     {
@@ -55,7 +53,6 @@ impl<T: Kind, B: Barrier> Heap<'_, T, B> {
 
     // Link k of the record that register r holds: the record's place and the link's index.
     pub(crate) fn link_place(&self, r: i64, k: i64) -> Result<(Place, usize), StoreFault>
-        requires { Sound self.now }
         ensures place { result ≡ link_place (view T.Kind self.now).sizes (view T.Kind self.now).store r k }
         ensures within { IfOk result (λ p. Within self.now.used self.now.limits.slots p.0) }
     {

@@ -5,11 +5,10 @@ ghost use Rattle.registers.specs.Answers.{told_done};
 ghost use Rattle.heap.specs.Answers.{link_index, Within, told_plain, told_lengths};
 ghost use Rattle.heap.specs.Meaning.{meaning_of};
 ghost use Rattle.registers.specs.State.{after, answer, with_store};
-ghost use Rattle.heap.specs.View.{view, Sound, Frame};
 
 use crate::heap::Heap;
 use crate::heap::links::{fill_in, without_links};
-use crate::records::{link_in, record_of};
+use crate::records::record_of;
 use kinds::barrier::Barrier;
 use kinds::fault::StoreFault;
 use kinds::kind::Kind;
@@ -19,6 +18,8 @@ use ring::arcs::Lengths;
 use words::place::Place;
 
 impl<T: Kind, B: Barrier> Heap<'_, T, B> {
+    ghost use Rattle.heap.specs.View.{view, Frame};
+
     // The index of a link.
     pub(crate) fn link_index(&self, k: i64) -> Result<usize, StoreFault>
         ensures { result ≡ link_index T.Kind.count k }
@@ -28,19 +29,14 @@ impl<T: Kind, B: Barrier> Heap<'_, T, B> {
 
     // Link k of the record at a place.
     pub(crate) fn link_at(&self, at: Place, k: usize) -> u32
-        requires sound { Sound self.now }
         requires within { Within self.now.used self.now.limits.slots at }
         ensures { result ≡ slice_index (record_at (view T.Kind self.now).store at).links k }
     {
-        match at {
-            Place::Young(p) => link_in(self.nursery, p as usize, k),
-            Place::Old(q) => link_in(self.slots, q as usize, k),
-        }
+        self.record_in(at).link(k)
     }
 
     // The record at a place.
     pub(crate) fn record_in(&self, at: Place) -> T
-        requires sound { Sound self.now }
         requires within { Within self.now.used self.now.limits.slots at }
         ensures { meaning_of T.Kind result ≡ record_at (view T.Kind self.now).store at }
     {
@@ -52,9 +48,7 @@ impl<T: Kind, B: Barrier> Heap<'_, T, B> {
 
     // Gives the record at a place the plain part of a template.
     fn fill_at(&mut self, at: Place, template: &T)
-        requires sound { Sound self.old }
         requires within { Within self.old.used self.old.limits.slots at }
-        ensures sound { Sound self.new }
         ensures state { view T.Kind self.new ≡ with_store (view T.Kind self.old) (put_record (view T.Kind self.old).store at (with_plain (record_at (view T.Kind self.old).store at) (T.Kind.plain template.now))) }
         ensures frame { Frame self.old self.new }
     {
@@ -66,8 +60,6 @@ impl<T: Kind, B: Barrier> Heap<'_, T, B> {
 
     // Puts link k of the record in register s into register d.
     pub fn read(&mut self, d: i64, s: i64, k: i64) -> Result<(), StoreFault>
-        requires { Sound self.old }
-        ensures sound { Sound self.new }
         ensures state { view T.Kind self.new ≡ after B.Barrier.answers (view T.Kind self.old) (read d s k) }
         ensures told { told_done result ≡ answer B.Barrier.answers (view T.Kind self.old) (read d s k) }
         ensures frame { Frame self.old self.new }
@@ -81,8 +73,6 @@ impl<T: Kind, B: Barrier> Heap<'_, T, B> {
 
     // Gives the record in register s the plain part of a template.
     pub fn fill(&mut self, s: i64, template: &T) -> Result<(), StoreFault>
-        requires { Sound self.old }
-        ensures sound { Sound self.new }
         ensures state { view T.Kind self.new ≡ after B.Barrier.answers (view T.Kind self.old) (fill s (T.Kind.plain template.now)) }
         ensures told { told_done result ≡ answer B.Barrier.answers (view T.Kind self.old) (fill s (T.Kind.plain template.now)) }
         ensures frame { Frame self.old self.new }
@@ -95,8 +85,6 @@ impl<T: Kind, B: Barrier> Heap<'_, T, B> {
     // Writes the plain part of the record in register s to a record of the caller, whose links become nothing. A refusal
     // leaves that record as it is. Alters nothing in the store.
     pub fn plain(&mut self, s: i64, out: &mut T) -> Result<(), StoreFault>
-        requires { Sound self.old }
-        ensures sound { Sound self.new }
         ensures still { view T.Kind self.new ≡ view T.Kind self.old }
         ensures state { view T.Kind self.new ≡ after B.Barrier.answers (view T.Kind self.old) (plain s) }
         ensures told { told_plain (T.Kind.plain out.new) result ≡ answer B.Barrier.answers (view T.Kind self.old) (plain s) }
@@ -110,14 +98,12 @@ impl<T: Kind, B: Barrier> Heap<'_, T, B> {
 
     // The lengths of the free, white, grey and black arc, counted along the ring; alters nothing.
     pub fn tell(&mut self) -> Result<Lengths, StoreFault>
-        requires { Sound self.old }
-        ensures sound { Sound self.new }
         ensures still { view T.Kind self.new ≡ view T.Kind self.old }
         ensures state { view T.Kind self.new ≡ after B.Barrier.answers (view T.Kind self.old) tell }
         ensures told { told_lengths result ≡ answer B.Barrier.answers (view T.Kind self.old) tell }
         ensures frame { Frame self.old self.new }
     {
         self.ready()?;
-        Ok(self.ring.lengths())
+        Ok(self.area.lengths())
     }
 }

@@ -1,6 +1,5 @@
 // The heap's registers, with the calls on them that `RegisterTable` has.
 ghost use Rattle.std.specs.Prelude.{refl};
-ghost use Rattle.heap.specs.View.{view, Sound, Frame};
 ghost use Rattle.std.proofs.Common.{rules};
 
 use crate::heap::Heap;
@@ -10,13 +9,13 @@ use kinds::kind::Kind;
 use registers::table::RegisterTable;
 
 impl<T: Kind, B: Barrier> RegisterTable for Heap<'_, T, B> {
+    ghost use Rattle.heap.specs.View.{view, Frame};
+
     ghost state = { view T.Kind };
 
     ghost status = { λ h. h.status };
 
     ghost answers = { B.Barrier.answers };
-
-    ghost sound = { Sound };
 
     ghost frame = { Frame };
 

@@ -2,17 +2,16 @@
 ghost use Rattle.std.specs.Prelude.{◌≡◌, ◌<◌, false, [], ◌∷◌, ◌++◌};
 ghost use Rattle.ring.specs.Arcs.{has};
 ghost use Rattle.rules.specs.Rules.{with_notes};
-ghost use Rattle.heap.specs.Carrying.{Carried};
-ghost use Rattle.heap.specs.View.{Kept, contents};
 
 use crate::heap::Heap;
 use kinds::barrier::Barrier;
 use kinds::kind::Kind;
 
 impl<T: Kind, B: Barrier> Heap<'_, T, B> {
+    ghost use Rattle.heap.specs.View.{contents, Frame};
+
     // Whether slot q is noted.
     pub(crate) fn is_noted(&self, q: u32) -> bool
-        requires kept { Kept self.now }
         requires within { q < self.now.limits.slots }
         ensures { result ≡ has q (contents T.Kind self.now).notes }
     {
@@ -22,11 +21,10 @@ impl<T: Kind, B: Barrier> Heap<'_, T, B> {
 
     // Notes slot q, after the others.
     pub(crate) fn note(&mut self, q: u32)
-        requires kept { Kept self.old }
         requires within { q < self.old.limits.slots }
         requires fresh { has q (contents T.Kind self.old).notes ≡ false }
         requires room { self.old.noted < self.old.limits.slots }
-        ensures carried { Carried self.old self.new }
+        ensures frame { Frame self.old self.new }
         ensures left { contents T.Kind self.new ≡ with_notes ((contents T.Kind self.old).notes ++ (q ∷ [])) (contents T.Kind self.old) }
     {
         let n = self.noted;

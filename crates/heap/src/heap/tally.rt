@@ -2,7 +2,6 @@
 ghost use Rattle.std.specs.Prelude.{◌≡◌, ◌≤◌};
 ghost use Rattle.rules.specs.Chains.{all_places, follow, tally_answer};
 ghost use Rattle.heap.specs.Tallies.{answer_tally, told_tally};
-ghost use Rattle.heap.specs.View.{view, Sound, Frame};
 
 use crate::heap::Heap;
 use crate::tally::Tally;
@@ -12,9 +11,10 @@ use kinds::weighed::Weighed;
 use registers::table::RegisterTable;
 
 impl<T: Weighed, B: Barrier> Heap<'_, T, B> {
+    ghost use Rattle.heap.specs.View.{view, Frame};
+
     // How many places can hold a record: the used ones of the nursery and all slots.
     fn place_count(&self) -> u32
-        requires { Sound self.now }
         ensures places { result ≡ all_places (view T.Kind self.now).sizes (view T.Kind self.now).store }
         ensures few { result ≤ 17408 }
     {
@@ -24,15 +24,11 @@ impl<T: Weighed, B: Barrier> Heap<'_, T, B> {
     // Counts the flushes along the chain from a word, up to the first word that is no record. A chain that has an end has no
     // more records than there are places.
     fn tally_from(&self, first: u32) -> Result<Tally, StoreFault>
-        requires { Sound self.now }
         ensures { told_tally result ≡ tally_answer (view T.Kind self.now).store (follow (view T.Kind self.now).sizes (view T.Kind self.now).store (all_places (view T.Kind self.now).sizes (view T.Kind self.now).store) first) }
     {
         let most = self.place_count();
         let mut w = first;
-        let mut tally = Tally {
-            flushes: 0,
-            weight: 0,
-        };
+        let mut tally = Tally::default();
         for _ in 0..=most {
             let Some(at) = self.place_in(w) else {
                 return Ok(tally);
@@ -45,8 +41,6 @@ impl<T: Weighed, B: Barrier> Heap<'_, T, B> {
 
     // Counts the flushes along the chain from register r; alters nothing.
     pub fn tally(&mut self, r: i64) -> Result<Tally, StoreFault>
-        requires { Sound self.old }
-        ensures sound { Sound self.new }
         ensures still { view T.Kind self.new ≡ view T.Kind self.old }
         ensures told { told_tally result ≡ answer_tally (view T.Kind self.old) r }
         ensures frame { Frame self.old self.new }

@@ -6,8 +6,6 @@ ghost use Rattle.words.specs.declared.place.Place.TheVariants.{Young};
 ghost use Rattle.kinds.specs.Barriers.{names_overwritten, names_new};
 ghost use Rattle.kinds.specs.declared.fault.StoreFault.TheVariants.{NotesFull};
 ghost use Rattle.rules.specs.Rules.{with_arcs, with_notes, with_slots, with_link, record_at, put_record, link_at, set_link, is_young, shade_if, barrier_shades, needs_note, write_old};
-ghost use Rattle.heap.specs.Carrying.{Carried};
-ghost use Rattle.heap.specs.View.{Kept, contents};
 
 use crate::heap::Heap;
 use crate::records::{link_in, set_link_in};
@@ -39,87 +37,48 @@ fn shades_new(shades: Shades) -> bool
 }
 
 impl<T: Kind, B: Barrier> Heap<'_, T, B> {
-    // Link k of the record in slot q.
-    pub(crate) fn link_of(&self, q: u32, k: usize) -> u32
-        requires kept { Kept self.now }
-        requires within { q < self.now.limits.slots }
-        ensures { result ≡ link_at (contents T.Kind self.now).slots q k }
-    {
-        link_in(self.slots, q as usize, k)
-    }
-
-    // Shades a word if it is named.
-    fn shade_if(&mut self, named: bool, w: u32)
-        requires { Kept self.old }
-        ensures carried { Carried self.old self.new }
-        ensures left { contents T.Kind self.new ≡ with_arcs (shade_if named w (contents T.Kind self.old).arcs) (contents T.Kind self.old) }
-    {
-        if named {
-            self.shade_word(w);
-        }
-    }
+    ghost use Rattle.heap.specs.View.{contents, Frame};
 
     // Shades what the barrier names at a write into slot q, the overwritten word first.
     fn barrier_shades(&mut self, q: u32, overwritten: u32, new: u32)
-        requires { Kept self.old }
-        ensures carried { Carried self.old self.new }
+        ensures frame { Frame self.old self.new }
+        ensures noted { self.new.noted ≡ self.old.noted }
         ensures left { contents T.Kind self.new ≡ with_arcs (barrier_shades B.Barrier.answers (marked (contents T.Kind self.old).arcs q) overwritten new (contents T.Kind self.old).arcs) (contents T.Kind self.old) }
     {
-        let marked = self.ring.is_marked(q);
-        let shades = B::shades(marked);
-        self.shade_if(shades_overwritten(shades), overwritten);
-        self.shade_if(shades_new(shades), new);
+        let shades = B::shades(self.area.is_marked(q));
+        if shades_overwritten(shades) {
+            self.area.shade_word(overwritten);
+        }
+        if shades_new(shades) {
+            self.area.shade_word(new);
+        }
     }
 
     // The barrier, which is consulted while a cycle is open, at a write of w into link k of slot q.
     fn consult_barrier(&mut self, q: u32, k: usize, w: u32)
-        requires kept { Kept self.old }
         requires within { q < self.old.limits.slots }
-        ensures carried { Carried self.old self.new }
+        ensures frame { Frame self.old self.new }
+        ensures noted { self.new.noted ≡ self.old.noted }
         ensures left { contents T.Kind self.new ≡ with_arcs (write_old B.Barrier.answers (contents T.Kind self.old) q k w).arcs (contents T.Kind self.old) }
     {
-        if self.ring.is_open() {
-            let overwritten = self.link_of(q, k);
+        if self.area.is_open() {
+            let overwritten = self.link_at(Place::Old(q), k);
             self.barrier_shades(q, overwritten, w);
         }
     }
 
     // Whether a write of w into slot q needs a note.
     fn needs_note(&self, q: u32, w: u32) -> bool
-        requires kept { Kept self.now }
         requires within { q < self.now.limits.slots }
         ensures { result ≡ needs_note (contents T.Kind self.now) q w }
     {
         is_nursery_word(w) && !self.is_noted(q)
     }
 
-    // Whether a note is needed and no row is left for it.
-    fn lacks_row(&self, needed: bool) -> bool
-        requires { Kept self.now }
-        ensures { result ≡ (needed && nat_le self.now.limits.slots (length (contents T.Kind self.now).notes)) }
-    {
-        needed && self.noted >= self.limits.slots
-    }
-
-    // Notes slot q if that is needed.
-    fn note_if(&mut self, needed: bool, q: u32)
-        requires kept { Kept self.old }
-        requires within { q < self.old.limits.slots }
-        requires fresh { needed ≡ true → has q (contents T.Kind self.old).notes ≡ false }
-        requires room { needed ≡ true → self.old.noted < self.old.limits.slots }
-        ensures carried { Carried self.old self.new }
-        ensures left { contents T.Kind self.new ≡ with_notes (if needed then (contents T.Kind self.old).notes ++ (q ∷ []) else (contents T.Kind self.old).notes) (contents T.Kind self.old) }
-    {
-        if needed {
-            self.note(q);
-        }
-    }
-
     // Replaces link k of the record in slot q by the word w.
     fn replace_link(&mut self, q: u32, k: usize, w: u32)
-        requires kept { Kept self.old }
         requires within { q < self.old.limits.slots }
-        ensures carried { Carried self.old self.new }
+        ensures frame { Frame self.old self.new }
         ensures left { contents T.Kind self.new ≡ with_slots (set_link (contents T.Kind self.old).slots q k w) (contents T.Kind self.old) }
     {
         set_link_in(self.slots, q as usize, k, w);
@@ -127,27 +86,27 @@ impl<T: Kind, B: Barrier> Heap<'_, T, B> {
 
     // Writes w into link k of the record in slot q; refused, with nothing altered, if that needs a note and no row is left.
     pub(crate) fn write_old(&mut self, q: u32, k: usize, w: u32) -> Result<(), StoreFault>
-        requires kept { Kept self.old }
         requires within { q < self.old.limits.slots }
-        ensures carried { Carried self.old self.new }
+        ensures frame { Frame self.old self.new }
         ensures answer { result ≡ (if needs_note (contents T.Kind self.old) q w && nat_le self.old.limits.slots (length (contents T.Kind self.old).notes) then Err NotesFull else Ok tt) }
         ensures left { contents T.Kind self.new ≡ (if is_ok result then write_old B.Barrier.answers (contents T.Kind self.old) q k w else contents T.Kind self.old) }
     {
         let needed = self.needs_note(q, w);
-        if self.lacks_row(needed) {
+        if needed && self.noted >= self.limits.slots {
             return Err(StoreFault::NotesFull);
         }
         self.consult_barrier(q, k, w);
-        self.note_if(needed, q);
+        if needed {
+            self.note(q);
+        }
         self.replace_link(q, k, w);
         Ok(())
     }
 
     // Writes w into link k of the record at nursery place p.
     pub(crate) fn write_young(&mut self, p: u32, k: usize, w: u32)
-        requires kept { Kept self.old }
         requires within { p < self.old.used }
-        ensures carried { Carried self.old self.new }
+        ensures frame { Frame self.old self.new }
         ensures left { contents T.Kind self.new ≡ put_record (contents T.Kind self.old) (Young p) (with_link (record_at (contents T.Kind self.old) (Young p)) k w) }
     {
         set_link_in(self.nursery, p as usize, k, w);

@@ -5,9 +5,9 @@ use Rattle.heap.proofs.heap.Heap.is_noted.Goals as goal
 pub returns-then-i-self : goal.returns-then-i-self
 returns-then-i-self g c =
     let h = c.args.self.now in
-    noted_then c.args.q h.limits.slots h.noted h.notes.now c.requires.kept.remembered (omega (arith, c.requires.kept.noted_low, c.requires.kept.long)) c.if-i-self.true
+    noted_then c.args.q h.limits.slots h.noted h.notes.now h.kept.remembered (omega (arith, h.kept.noted_low, h.kept.notes_long)) c.if-i-self.true
 
 pub returns-else-i-self : goal.returns-else-i-self
 returns-else-i-self g c =
     let h = c.args.self.now in
-    noted_else c.args.q h.limits.slots h.noted h.notes.now c.requires.kept.remembered (omega (arith, c.requires.kept.noted_low, c.requires.kept.long)) c.if-i-self.false
+    noted_else c.args.q h.limits.slots h.noted h.notes.now h.kept.remembered (omega (arith, h.kept.noted_low, h.kept.notes_long)) c.if-i-self.false

@@ -6,14 +6,14 @@ use Rattle.heap.proofs.Linking.{front_more, front_all}
 use Rattle.heap.proofs.Named.{all_in_at, in_range_low, length_links, links_at}
 use Rattle.heap.proofs.heap.Heap.linked.Goals as goal
 
-pub word_in-requires-clause-low : goal.word_in-requires-clause-low
-word_in-requires-clause-low g c =
+pub word_in-requires : goal.word_in-requires
+word_in-requires g c =
     let rs = c.args.links.now in
     let n = c.args.self.now.limits.registers in
     let z = get_or rs c.loop-k.k (pos 0) in
     let fits : SFits w64 z = search rules in
     let is : c.index_of-i.result ≡ index z = c.index_of-i.ensures ∙ ap index (to_z-of_z w64 z fits) in
-    subst (λ i. i < n) (sym is) (in_range_low z n (all_in_at rs n c.loop-k.k c.requires.below c.loop-k-test.true)).1
+    record { low = subst (λ i. i < n) (sym is) (in_range_low z n (all_in_at rs n c.loop-k.k c.requires.below c.loop-k-test.true)).1 }
 
 pub loop-k-preserved : goal.loop-k-preserved
 loop-k-preserved g c =

@@ -1,4 +1,4 @@
-use Rattle.std.proofs.Common.{suc, [], ◌∷◌, length, sym, ap, ◌∙◌}
+use Rattle.std.proofs.Common.{◌≡◌, suc, [], ◌∷◌, length, sym, ap, ◌∙◌, rules}
 use Rattle.words.specs.Words.{nursery_word}
 use Rattle.rules.specs.Rules.{make, counts, links_from}
 use Rattle.heap.specs.Meaning.{meaning_of}
@@ -26,12 +26,12 @@ returns g c =
     let (is_open, is) = ready_tells h.status _ c.in_ok-i.i c.in_ok-i.ensures in
     let m = make_tells h.status s.sizes s.store d rs c.in_ok-i.i c.ranges.d c.in_ok-i.ensures in
     let run = make_run s.sizes b s.store d p rs c.in_ok-i.i m in
-    let word = c.young_word-w.ensures ∙ ap nursery_word (sym (nursery_length k h c.requires)) in
+    let first : c.unwrap-w.result ≡ nursery_word h.used = search rules in
+    let word = first ∙ ap nursery_word (sym (nursery_length k h)) in
     let made = same_record (meaning_of k x) (record { links = links_from s.store rs; plain = p }) c.linked-made.ensures.links c.linked-made.ensures.plain in
-    let state = made_state s (view k h₁) (view k h₂) d p rs c.in_ok-i.i c.young_word-w.result (meaning_of k x) c.add_record.ensures.state c.put_word.ensures.state m.index_is word made in
+    let state = made_state s (view k h₁) (view k h₂) d p rs c.in_ok-i.i c.unwrap-w.result (meaning_of k x) c.add_record.ensures.state c.put_word.ensures.state m.index_is word made in
     record {
-      sound = c.put_word.ensures.sound;
       state = state ∙ open_after b s call (made_store s.store d p rs) a is_open run;
-      told = made_count s (view k h₂) d p rs h₂.used state (nursery_length k h₂ c.put_word.ensures.sound) ∙ open_answer b s call (made_store s.store d p rs) a is_open run;
+      told = made_count s (view k h₂) d p rs h₂.used state (nursery_length k h₂) ∙ open_answer b s call (made_store s.store d p rs) a is_open run;
       frame = frame_trans h h₁ h₂ c.add_record.ensures.frame c.put_word.ensures.frame;
     }

@@ -1,31 +1,31 @@
-use Rattle.std.proofs.Common.{◌≤◌, sym, refl, ◌∙◌, subst, arith}
-use Rattle.ring.specs.View.{arcs_of}
+use Rattle.std.proofs.Common.{◌≤◌, sym, refl, subst, arith}
 use Rattle.registers.proofs.Opens.{filled}
-use Rattle.heap.proofs.Beginning.{tables_longs, all_free, no_white, left_rest}
+use Rattle.heap.proofs.Beginning.{tables_longs, left_rest}
 use Rattle.heap.proofs.heap.Heap.over.Goals as goal
 
-pub returns-clause-sound : goal.returns-clause-sound
-returns-clause-sound g c =
+pub invariant_of-result : goal.invariant_of-result
+invariant_of-result g c =
     let t = c.args.tables in
     let l = c.args.limits in
-    let ring = c.new.result in
-    let counts = c.new-2.ensures in
     let long = tables_longs l.slots l.places l.registers t c.requires.long in
     let begun = c.new.ensures.begun (long.next, long.previous, long.stamp) in
     let clear = filled l.registers t.registers.now c.fill.new.self 0 long.registers c.fill.ensures.len (c.fill.ensures.after (λ y h. h)) in
     record {
       kept = record {
-        long = (subst (λ n. l.registers ≤ n) (sym clear.size) long.registers, long.nursery, long.slots, long.forward, long.notes);
-        fine = c.new.ensures.sound;
+        registers_long = subst (λ n. l.registers ≤ n) (sym clear.size) long.registers;
+        nursery_long = long.nursery;
+        slots_long = long.slots;
+        forward_long = long.forward;
+        notes_long = long.notes;
+        fine = c.new.result.counted.fine;
         ring_size = begun.slots_are;
-        counted = (counts.0, omega (arith, counts.1, all_free l.slots (arcs_of ring) begun.arcs_are), counts.2 ∙ no_white l.slots (arcs_of ring) begun.arcs_are);
         used_low = omega arith;
         noted_low = omega arith;
         remembered = λ i low. absurd (omega arith);
         few_slots = c.requires.slots;
         few_places = c.requires.places;
+        room = omega arith;
       };
-      waiting = counts.3;
     }
 
 pub returns-clause-lent : goal.returns-clause-lent

@@ -9,12 +9,15 @@ pub loop-init : goal.loop-init
 loop-init g c =
     let s = view g.T.Kind c.args.self.now in
     let n = all_places s.sizes s.store in
-    let words : (c.place_count-most.result + 1) - 0 ≡ suc n = omega (arith, c.place_count-most.ensures.places) in (
-      ap (λ k. tally_with s.store 0 0 (follow_words s.sizes s.store k c.args.first)) words
+    let words : (c.place_count-most.result + 1) - 0 ≡ suc n = omega (arith, c.place_count-most.ensures.places) in
+    let told = follow_words s.sizes s.store ((c.place_count-most.result + 1) - 0) c.args.first in
+    let zero = c.default-tally in (
+      ap (λ f. tally_with s.store f zero.result.weight told) zero.ensures.0 ∙ ap (λ w. tally_with s.store 0 w told) zero.ensures.1
+          ∙ ap (λ k. tally_with s.store 0 0 (follow_words s.sizes s.store k c.args.first)) words
           ∙ ap (tally_with s.store 0 0) (sym (follow_is s.sizes s.store n c.args.first))
           ∙ tally_begins s.store (follow s.sizes s.store n c.args.first),
-      omega arith,
-      omega arith,
+      omega (arith, zero.ensures.0),
+      omega (arith, zero.ensures.1),
     )
 
 pub returns-in_default : goal.returns-in_default

@@ -1,0 +1,67 @@
+use Rattle.std.proofs.Common.{◌≡◌, length, refl, sym, ◌∙◌, ap, subst, length-set, arith, ◌+◌}
+use Rattle.ring.specs.View.{arcs_of}
+use Rattle.heap.specs.Emptying.{emptying}
+use Rattle.heap.specs.Evacuating.{Underway}
+use Rattle.heap.proofs.Evacuations.{row_to, row_queued}
+use Rattle.heap.proofs.Copying.{forwarded, room, row_long, queue_long, taken_low, copied_under, copied_state, copied_word}
+use Rattle.heap.proofs.evacuation.Evacuation.copy_record.Goals as goal
+
+pub put_at-requires : goal.put_at-requires
+put_at-requires g c =
+    let e = c.args.self.now in
+    omega (arith, taken_low e.area.now.ring c.in-Some.q e.area.now.counted.fine c.in-Some.ensures, e.underway.ring_size)
+
+pub invariant_of-self-3 : goal.invariant_of-self-3
+invariant_of-self-3 g c =
+    let e = c.args.self.now in
+    let long : length c.put_at.new.records ≡ length e.slots.now = ap length c.put_at.ensures ∙ length-set e.slots.now c.in-Some.q _ in
+    let low = taken_low e.area.now.ring c.in-Some.q e.area.now.counted.fine c.in-Some.ensures in
+    record {
+      underway =
+          subst (λ n. Underway (length e.nursery.now) n (row_to e.forward.now c.args.p c.in-Some.q) e.area.now.ring e.copied) (sym long)
+          (forwarded _ _ e.forward.now e.area.now.ring e.copied c.args.p c.in-Some.q e.underway c.requires.used c.requires.unmoved (omega (arith, low, e.underway.ring_size)));
+    }
+
+pub bounds-self-self : goal.bounds-self-self
+bounds-self-self g c =
+    let e = c.args.self.now in
+    omega (arith, room _ _ _ _ _ c.args.p e.underway c.requires.used c.requires.unmoved, e.underway.rows, row_long e.forward.now c.args.p c.in-Some.q)
+
+pub invariant_of-self-4 : goal.invariant_of-self-4
+invariant_of-self-4 g c =
+    let e = c.args.self.now in
+    let long : length c.put_at.new.records ≡ length e.slots.now = ap length c.put_at.ensures ∙ length-set e.slots.now c.in-Some.q _ in
+    let low = taken_low e.area.now.ring c.in-Some.q e.area.now.counted.fine c.in-Some.ensures in
+    record {
+      underway =
+          subst (λ n. Underway (length e.nursery.now) n (row_queued (row_to e.forward.now c.args.p c.in-Some.q) e.copied c.in-Some.q) c.take.new.self.ring (e.copied + 1)) (sym long)
+          (copied_under _ _ e.forward.now e.area.now.ring c.take.new.self.ring _ e.copied c.args.p c.in-Some.q e.underway c.requires.used c.requires.unmoved (omega (arith, low, e.underway.ring_size)) c.in-Some.ensures c.take.ensures.left);
+    }
+
+pub old_word-requires : goal.old_word-requires
+old_word-requires g c =
+    let e = c.args.self.now in
+    omega (arith, taken_low e.area.now.ring c.in-Some.q e.area.now.counted.fine c.in-Some.ensures, e.underway.ring_size, e.underway.few_slots)
+
+pub returns : goal.returns
+returns g c =
+    let e = c.args.self.now in
+    let p = c.args.p in
+    let q = c.in-Some.q in
+    let a = arcs_of e.area.now.ring in
+    let left = c.take.ensures.left in
+    let there = room _ _ _ _ _ p e.underway c.requires.used c.requires.unmoved in
+    record {
+      stage = record {
+        same_slots = refl;
+        same_forward = refl;
+        same_area = refl;
+        same_nursery = refl;
+        slots_long = ap length c.put_at.ensures ∙ length-set e.slots.now q _;
+        forward_long = queue_long e.forward.now p e.copied q;
+        ring_size = left.slots_kept;
+        beyond = left.beyond;
+      };
+      state = λ rs ns. copied_state g.T.Kind rs ns e.nursery.now e.slots.now c.put_at.new.records e.forward.now e.area.now.ring c.take.new.self.ring e.copied p q _ c.requires.used (omega (arith, there, e.underway.rows)) c.in-Some.ensures left c.put_at.ensures;
+      word = λ rs ns. c.old_word.ensures ∙ copied_word p q a (emptying g.T.Kind rs ns e) c.in-Some.ensures;
+    }

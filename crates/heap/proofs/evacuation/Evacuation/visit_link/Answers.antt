@@ -1,0 +1,16 @@
+use Rattle.std.proofs.Common.{ap}
+use Rattle.rules.specs.Rules.{with_slots}
+use Rattle.heap.specs.Emptying.{emptying}
+use Rattle.heap.proofs.Visits.{with_slot_link, visited}
+use Rattle.heap.proofs.evacuation.Evacuation.visit_link.Goals as goal
+
+pub returns-clause-state : goal.returns-clause-state
+returns-clause-state g c rs ns =
+    let q = c.args.q in
+    let k = c.args.k in
+    let v = c.visit-v.result in
+    let before = emptying g.T.Kind rs ns c.args.self.now in
+    let after = emptying g.T.Kind rs ns c.visit-v.new.self in
+    visited c.args.rescan (with_slot_link q k) _ c.link_of-w.result v before after _
+    (c.link_of-w.ensures rs ns) (c.visit-v.ensures.state rs ns) (c.visit-v.ensures.word rs ns)
+    (ap (λ ss. record { store = with_slots ss after.store; forward = after.forward; copied = after.copied }) c.set_link_in.ensures.linked)

@@ -1,0 +1,37 @@
+-- An evacuation as the rules see it, and what its parts keep.
+use Rattle.std.specs.Prelude.{◌≡◌, ℕ, List, map, length}
+use Rattle.ring.specs.View.{arcs_of, slots_of, is_open_of, Beyond}
+use Rattle.rules.specs.Rules.{Store, Evacuation as Emptying}
+use Rattle.kinds.specs.declared.kind.Kind.{Ghosts}
+use Rattle.heap.specs.declared.evacuation.Evacuation.{Evacuation}
+use Rattle.heap.specs.Meaning.{meaning_of}
+use Rattle.heap.specs.Rows.{front}
+
+-- the store whose nursery is emptied, with these registers and notes
+abbrev pub store_of : {X : Type 0} → Ghosts X → List ℕ → List ℕ → Evacuation X → Store
+store_of g rs ns e = record {
+  registers = rs;
+  nursery = map (meaning_of g) e.nursery.now;
+  slots = map (meaning_of g) e.slots.now;
+  arcs = arcs_of e.area.now.ring;
+  notes = ns;
+  cycle = is_open_of e.area.now.ring;
+}
+
+abbrev pub emptying : {X : Type 0} → Ghosts X → List ℕ → List ℕ → Evacuation X → Emptying
+emptying g rs ns e = record {
+  store = store_of g rs ns e;
+  forward = map (λ f. f.target) e.forward.now;
+  copied = front (λ f. f.copied) e.copied e.forward.now;
+}
+
+-- what every part keeps: the tables it was lent, the nursery, how many slots there are, and what stands beyond them
+pub record Stage {X : Type 0} (was is : Evacuation X) : Type 0 where
+  pub same_slots : is.slots.ghost_name ≡ was.slots.ghost_name
+  pub same_forward : is.forward.ghost_name ≡ was.forward.ghost_name
+  pub same_area : is.area.ghost_name ≡ was.area.ghost_name
+  pub same_nursery : is.nursery.now ≡ was.nursery.now
+  pub slots_long : length is.slots.now ≡ length was.slots.now
+  pub forward_long : length is.forward.now ≡ length was.forward.now
+  pub ring_size : slots_of is.area.now.ring ≡ slots_of was.area.now.ring
+  pub beyond : Beyond was.area.now.ring is.area.now.ring
