@@ -1,12 +1,10 @@
 -- What accepted arguments tell, and what the rules say of calls on an open store.
-use Rattle.std.proofs.Common.{◌≡◌, ℕ, suc, ◌+◌, ◌<◌, Bool, true, false, cond, ◌&&◌, eqb, ltb, List, [], ◌∷◌, ◌++◌, length, get_or, set, ℤ, pos, negsuc, Some, None, Ok, Err, Option, Result, sym, refl, ap, ◌∙◌, arith, w64, SFits, to_z, of_z}
+use Rattle.std.proofs.Common.{◌≡◌, ℕ, ◌<◌, Bool, true, false, cond, ◌&&◌, eqb, ltb, List, length, get_or, ℤ, pos, negsuc, Some, None, Ok, Err, Option, Result, sym, refl, ap, ◌∙◌, arith, w64, SFits, to_z, of_z}
 use Rattle.std.proofs.lemmas.Int.{to_z-of_z}
-use Rattle.std.proofs.lemmas.List.{length_push}
 use Rattle.std.proofs.lemmas.Bool.{and_parts}
 use Rattle.std.proofs.lemmas.Bool.Decides.{nat_tests}
-use Rattle.words.specs.Words.{nursery_word}
 use Rattle.words.specs.declared.place.Place.{Place}
-use Rattle.rules.specs.Rules.{Barrier, Record, Sizes, Store, Call, Answer, make, read, refused, counts, ok, put, record_at, with_registers, with_nursery, links_from, in_range, index, all_in, place_in, with_place, run_call}
+use Rattle.rules.specs.Rules.{Barrier, Sizes, Store, Call, Answer, read, refused, ok, put, record_at, in_range, index, all_in, place_in, with_place, run_call}
 use Rattle.kinds.specs.declared.fault.StoreFault.{StoreFault}
 use Rattle.kinds.specs.declared.fault.StoreFault.TheVariants.{NoSuchRegister, WrongLinkCount, NoRecord, NurseryFull, NoRoom}
 use Rattle.registers.specs.Answers.{told_why, ready_at, and_then}
@@ -88,29 +86,3 @@ make_tells status z s d rs i fits h =
     let (slot, h₅) = ok_tells (ltb (length s.nursery) (length s.arcs.free)) (Ok tt) NoRoom tt h₄ in
     let is : i ≡ index d = cc in
     record { target = d_in; sources = rs_in; counted = many; place = place; slot = slot; index_is = is }
-
--- make, with all its tests passed
-abbrev pub made_store : Store → ℤ → List ℤ → List ℤ → Store
-made_store s d p rs = put (with_nursery (s.nursery ++ (record { links = links_from s rs; plain = p } ∷ [])) s) d (nursery_word (length s.nursery))
-
-make_run_by : (z : Sizes) (b : Barrier) (s : Store) (d : ℤ) (p rs : List ℤ) → in_range d z.registers ≡ true → all_in rs z.registers ≡ true → eqb (length rs) z.links ≡ true → ltb (length s.nursery) z.places ≡ true → ltb (length s.nursery) (length s.arcs.free) ≡ true → run_call z b s (make d p rs) ≡ (made_store s d p rs, counts (suc (length s.nursery) ∷ []))
-make_run_by z b s d p rs h₁ h₂ h₃ h₄ h₅ = rw (h₁, h₂, h₃, h₄, h₅)
-
-pub make_run : (z : Sizes) (b : Barrier) (s : Store) (d : ℤ) (p rs : List ℤ) (i : ℕ) → Makes z s d rs i → run_call z b s (make d p rs) ≡ (made_store s d p rs, counts (suc (length s.nursery) ∷ []))
-make_run z b s d p rs i m = make_run_by z b s d p rs m.target m.sources m.counted m.place m.slot
-
--- a record put into the nursery, and its word into a register
-pub made_state : (s s₁ s₂ : State) (d : ℤ) (p rs : List ℤ) (i w : ℕ) (r : Record) → s₁ ≡ with_store s (with_nursery (s.store.nursery ++ (r ∷ [])) s.store) → s₂ ≡ with_store s₁ (with_registers (set s₁.store.registers i w) s₁.store) → i ≡ index d → w ≡ nursery_word (length s.store.nursery) → r ≡ record { links = links_from s.store rs; plain = p } → s₂ ≡ with_store s (made_store s.store d p rs)
-made_state s s₁ s₂ d p rs i w r e₁ e₂ i-is w_is r_is =
-    e₂
-    ∙ ap (λ x. with_store x (with_registers (set x.store.registers i w) x.store)) e₁
-    ∙ ap (λ k. with_store s (with_registers (set s.store.registers k w) (with_nursery (s.store.nursery ++ (r ∷ [])) s.store))) i-is
-    ∙ ap (λ v. with_store s (with_registers (set s.store.registers (index d) v) (with_nursery (s.store.nursery ++ (r ∷ [])) s.store))) w_is
-    ∙ ap (λ x. with_store s (with_registers (set s.store.registers (index d) (nursery_word (length s.store.nursery))) (with_nursery (s.store.nursery ++ (x ∷ [])) s.store))) r_is
-
--- how many records the nursery has then
-pub made_count : (s s₂ : State) (d : ℤ) (p rs : List ℤ) (n : ℕ) → s₂ ≡ with_store s (made_store s.store d p rs) → length s₂.store.nursery ≡ n → counts (n ∷ []) ≡ counts (suc (length s.store.nursery) ∷ [])
-made_count s s₂ d p rs n e f =
-    let l : length s₂.store.nursery ≡ length s.store.nursery + 1 = ap (λ x. length x.store.nursery) e ∙ length_push s.store.nursery (record { links = links_from s.store rs; plain = p }) in
-    let m : n ≡ suc (length s.store.nursery) = omega arith in
-    ap (λ k. counts (k ∷ [])) m

@@ -4,7 +4,6 @@ pub mod Slots
 pub mod Framing
 pub mod Accepted
 pub mod Refusing
-pub mod Beginning
 pub mod Opens
 pub mod Found
 pub mod Linking
@@ -17,7 +16,6 @@ pub mod Visits
 pub mod Keeps
 pub mod Cycles
 pub mod Remembering
-pub mod Writes
 pub mod SameCycle
 pub mod Collections
 pub mod Finishing

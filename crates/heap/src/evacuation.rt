@@ -3,13 +3,11 @@
 ghost use Rattle.std.specs.Prelude.{◌≡◌, ℕ, ◌+◌, ◌<◌, ◌≤◌, List, length, map, Some, None, MatchOption, slice_index_or};
 ghost use Rattle.ring.specs.Arcs.{take_slot};
 ghost use Rattle.ring.specs.View.{arcs_of, slots_of, Beyond};
-ghost use Rattle.words.specs.Words.{slot_word};
 ghost use Rattle.rules.specs.Rules.{Evacuation as Emptying, evacuate_into, evacuate_to, evacuated, link_at, visit_links, visit_link, visit_registers, visit_noted, visit_copied};
 ghost use Rattle.heap.specs.Evacuating.{SlotsBelow, Underway, shade_visited, store_over, visited};
 ghost use Rattle.heap.specs.Rows.{no_forward};
 
 use crate::area::Area;
-use crate::records::{link_in, put_at, set_link_in};
 use crate::rows::{Forward, Note};
 use kinds::kind::Kind;
 use words::place::Place;
@@ -34,14 +32,6 @@ fn used_place(w: u32, n: usize) -> Option<u32>
         Some(Place::Young(p)) if (p as usize) < n => Some(p),
         _ => None,
     }
-}
-
-// The word of an old slot, of which there are at most 16,384.
-fn old_word(q: u32) -> u32
-    requires { q < 16384 }
-    ensures { result ≡ slot_word q }
-{
-    slot_word(q).unwrap()
 }
 
 // Copies to slots what the registers and the records of noted slots lead to, and what the copied records lead to. Says how many
@@ -99,12 +89,13 @@ impl<T: Kind> Evacuation<'_, '_, T> {
             return 0;
         };
         let record = self.nursery[p as usize];
-        put_at(self.slots, q as usize, record);
+        let slots = &mut *self.slots;
+        slots[q as usize] = record;
         self.forward[p as usize].target = Some(q);
         self.forward[self.copied as usize].copied = q;
         self.copied += 1;
         let _ = self.area.take();
-        old_word(q)
+        slot_word(q).unwrap()
     }
 
     // The word that takes the place of w: that of the slot of the record, if w is a used nursery place, else w itself.
@@ -117,7 +108,7 @@ impl<T: Kind> Evacuation<'_, '_, T> {
             return w;
         };
         match self.forward[p as usize].target {
-            Some(q) => old_word(q),
+            Some(q) => slot_word(q).unwrap(),
             None => self.copy_record(p),
         }
     }
@@ -151,7 +142,8 @@ impl<T: Kind> Evacuation<'_, '_, T> {
         requires { q < length self.now.slots.now }
         ensures { (rs ns : List ℕ) → result ≡ link_at (emptying T.Kind rs ns self.now).store.slots q k }
     {
-        link_in(self.slots, q as usize, k)
+        let slots = &*self.slots;
+        slots[q as usize].link(k)
     }
 
     // Visits link k of slot q: its word is replaced by that of the evacuated record.
@@ -162,7 +154,8 @@ impl<T: Kind> Evacuation<'_, '_, T> {
     {
         let w = self.link_of(q, k);
         let v = self.visit(w, rescan);
-        set_link_in(self.slots, q as usize, k, v);
+        let slots = &mut *self.slots;
+        slots[q as usize].set_link(k, v);
     }
 
     // Visits the links of slot q, ascending. (By index: a visit takes the whole evacuation, so that no link can be lent to the loop.)

@@ -6,7 +6,6 @@ pub use registers::{seen, sizes};
 mod area;
 mod evacuation;
 pub mod heap;
-pub mod records;
 pub mod rows;
 pub mod stepped;
 pub mod tally;

@@ -5,7 +5,7 @@ ghost use Rattle.rules.specs.Rules.{no_record, scan_and_close, scans_made, freed
 ghost use Rattle.heap.specs.Scans.{scans_one, scanned_one, scanned_upto, with_open_cycle, finished, scans_finishing, freed_finishing, collected_all, scans_of_all, freed_of_all};
 
 use crate::heap::Heap;
-use crate::records::links_of;
+use crate::heap::links::links_of;
 use kinds::barrier::Barrier;
 use kinds::kind::Kind;
 
@@ -36,7 +36,8 @@ impl<T: Kind, B: Barrier> Heap<'_, T, B> {
         requires within { q < self.now.limits.slots }
         ensures { take T.Kind.count result ≡ (slice_index_or (contents T.Kind self.now).slots q no_record).links }
     {
-        links_of(self.slots[q as usize])
+        let slots = &*self.slots;
+        links_of(&slots[q as usize])
     }
 
     // Scans the last grey slot, if there is one: it becomes black, and its links are shaded. Says whether there was one.

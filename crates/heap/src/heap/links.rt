@@ -1,10 +1,14 @@
-// Records with all their links replaced, of any kind.
-ghost use Rattle.std.specs.Prelude.{◌≡◌, ℕ, ◌<◌, map, length, take, drop, replicate, slice_index_or, slice_set};
-ghost use Rattle.rules.specs.Rules.{with_plain, no_record};
-ghost use Rattle.heap.specs.Meaning.{meaning_of};
+// All links of a record, of any kind.
+ghost use Rattle.std.specs.Prelude.{◌≡◌, ℕ, take, replicate, slice_index};
 
-use crate::records::links_of;
 use kinds::kind::Kind;
+
+// The links of a record, and 0 after them. (An array: a kind has at most 8 links, and a store has no heap memory.)
+pub(crate) fn links_of<T: Kind>(one: &T) -> [u32; 8]
+    ensures { (k : ℕ) → slice_index result k ≡ slice_index (T.Kind.links one.now) k }
+{
+    std::array::from_fn(|k| one.link(k))
+}
 
 // The record with these links, as many as its kind has.
 fn with_links<T: Kind>(one: T, links: [u32; 8]) -> T
@@ -26,11 +30,10 @@ pub(crate) fn without_links<T: Kind>(one: T) -> T
     with_links(one, [0; 8])
 }
 
-// Gives record i the plain part of a template.
-pub(crate) fn fill_in<T: Kind>(records: &mut [T], i: usize, template: &T)
-    requires { i < length records.old }
-    ensures filled { map (meaning_of T.Kind) records.new ≡ slice_set (map (meaning_of T.Kind) records.old) i (with_plain (slice_index_or (map (meaning_of T.Kind) records.old) i no_record) (T.Kind.plain template.now)) }
-    ensures beyond { (n : ℕ) → i < n → drop n records.new ≡ drop n records.old }
+// Gives a record the plain part of a template.
+pub(crate) fn fill<T: Kind>(one: &mut T, template: &T)
+    ensures links { T.Kind.links one.new ≡ T.Kind.links one.old }
+    ensures plain { T.Kind.plain one.new ≡ T.Kind.plain template.now }
 {
-    records[i] = with_links(*template, links_of(records[i]));
+    *one = with_links(*template, links_of(one));
 }

@@ -1,7 +1,8 @@
-// Where the word in a register leads.
+// Where the word in a register leads, and the record there.
 ghost use Rattle.std.specs.Prelude.{◌≡◌, ◌<◌, length, IfSome, IfOk};
-ghost use Rattle.rules.specs.Rules.{place_in};
+ghost use Rattle.rules.specs.Rules.{place_in, record_at};
 ghost use Rattle.heap.specs.Answers.{held_place, open_record_place, link_place, is_within, Within};
+ghost use Rattle.heap.specs.Meaning.{meaning_of};
 
 use crate::heap::Heap;
 use kinds::barrier::Barrier;
@@ -12,15 +13,33 @@ use words::place::Place;
 use words::word::place_of;
 
 impl<T: Kind, B: Barrier> Heap<'_, T, B> {
-    ghost use Rattle.heap.specs.View.{view};
+    ghost use Rattle.heap.specs.View.{contents, view};
 
     // Whether a place is a used one of the nursery or a slot of the store.
     fn is_within(&self, at: Place) -> bool
-        ensures { result ≡ is_within self.now.used self.now.limits.slots at }
+        ensures within { result ≡ is_within self.now.used self.now.limits.slots at }
+        ensures used { length (contents T.Kind self.now).nursery ≡ self.now.used }
     {
         match at {
             Place::Young(p) => p < self.used,
             Place::Old(q) => q < self.limits.slots,
+        }
+    }
+
+    // The record at a place.
+    pub(crate) fn record_at(&self, at: Place) -> &T
+        requires within { Within self.now.used self.now.limits.slots at }
+        ensures { meaning_of T.Kind result.now ≡ record_at (contents T.Kind self.now) at }
+    {
+        match at {
+            Place::Young(p) => {
+                let nursery = &*self.nursery;
+                &nursery[p as usize]
+            }
+            Place::Old(q) => {
+                let slots = &*self.slots;
+                &slots[q as usize]
+            }
         }
     }
 
@@ -39,7 +58,8 @@ impl<T: Kind, B: Barrier> Heap<'_, T, B> {
         ensures place { result ≡ held_place (view T.Kind self.now).sizes (view T.Kind self.now).store i }
         ensures within { IfOk result (Within self.now.used self.now.limits.slots) }
     {
-        self.place_in(self.word_in(i)).ok_or(StoreFault::NoRecord)
+        let words = &*self.registers;
+        self.place_in(words[i]).ok_or(StoreFault::NoRecord)
     }
 
     // The place of the record that register r of an open store holds.

@@ -1,14 +1,11 @@
 // The calls that read and fill records, and the count of the arcs.
-ghost use Rattle.std.specs.Prelude.{◌≡◌, replicate, MatchResult, slice_index};
+ghost use Rattle.std.specs.Prelude.{◌≡◌, replicate, MatchResult};
 ghost use Rattle.rules.specs.Rules.{read, fill, plain, tell, record_at, put_record, with_plain};
 ghost use Rattle.registers.specs.Answers.{told_done};
 ghost use Rattle.heap.specs.Answers.{link_index, Within, told_plain, told_lengths};
-ghost use Rattle.heap.specs.Meaning.{meaning_of};
 ghost use Rattle.registers.specs.State.{after, answer, with_store};
 
-use crate::heap::Heap;
-use crate::heap::links::{fill_in, without_links};
-use crate::records::record_of;
+use crate::heap::{Heap, links};
 use kinds::barrier::Barrier;
 use kinds::fault::StoreFault;
 use kinds::kind::Kind;
@@ -27,34 +24,22 @@ impl<T: Kind, B: Barrier> Heap<'_, T, B> {
         index_below(k, T::link_count()).ok_or(StoreFault::NoSuchLink)
     }
 
-    // Link k of the record at a place.
-    pub(crate) fn link_at(&self, at: Place, k: usize) -> u32
-        requires within { Within self.now.used self.now.limits.slots at }
-        ensures { result ≡ slice_index (record_at (view T.Kind self.now).store at).links k }
-    {
-        self.record_in(at).link(k)
-    }
-
-    // The record at a place.
-    pub(crate) fn record_in(&self, at: Place) -> T
-        requires within { Within self.now.used self.now.limits.slots at }
-        ensures { meaning_of T.Kind result ≡ record_at (view T.Kind self.now).store at }
-    {
-        match at {
-            Place::Young(p) => record_of(self.nursery, p as usize),
-            Place::Old(q) => record_of(self.slots, q as usize),
-        }
-    }
-
-    // Gives the record at a place the plain part of a template.
+    // Gives the record at a place the plain part of a template. (By a match: a method that lends the record as `&mut` would have
+    // to say what the heap is once the loan ends.)
     fn fill_at(&mut self, at: Place, template: &T)
         requires within { Within self.old.used self.old.limits.slots at }
         ensures state { view T.Kind self.new ≡ with_store (view T.Kind self.old) (put_record (view T.Kind self.old).store at (with_plain (record_at (view T.Kind self.old).store at) (T.Kind.plain template.now))) }
         ensures frame { Frame self.old self.new }
     {
         match at {
-            Place::Young(p) => fill_in(self.nursery, p as usize, template),
-            Place::Old(q) => fill_in(self.slots, q as usize, template),
+            Place::Young(p) => {
+                let nursery = &mut *self.nursery;
+                links::fill(&mut nursery[p as usize], template);
+            }
+            Place::Old(q) => {
+                let slots = &mut *self.slots;
+                links::fill(&mut slots[q as usize], template);
+            }
         }
     }
 
@@ -66,7 +51,7 @@ impl<T: Kind, B: Barrier> Heap<'_, T, B> {
     {
         let i = self.open_register(d)?;
         let (at, n) = self.link_place(s, k)?;
-        let w = self.link_at(at, n);
+        let w = self.record_at(at).link(n);
         self.put_word(i, w);
         Ok(())
     }
@@ -92,7 +77,7 @@ impl<T: Kind, B: Barrier> Heap<'_, T, B> {
         ensures frame { Frame self.old self.new }
     {
         let at = self.record_place(s)?;
-        *out = without_links(self.record_in(at));
+        *out = links::without_links(*self.record_at(at));
         Ok(())
     }
 

@@ -33,8 +33,9 @@ impl<T: Weighed, B: Barrier> Heap<'_, T, B> {
             let Some(at) = self.place_in(w) else {
                 return Ok(tally);
             };
-            tally = tally.with(self.record_in(at));
-            w = self.link_at(at, 0);
+            let one = self.record_at(at);
+            tally = tally.with(*one);
+            w = one.link(0);
         }
         Err(StoreFault::EndlessChain)
     }

@@ -8,7 +8,6 @@ ghost use Rattle.kinds.specs.declared.fault.StoreFault.TheVariants.{NotesFull};
 ghost use Rattle.rules.specs.Rules.{with_arcs, with_notes, with_slots, with_link, record_at, put_record, link_at, set_link, is_young, shade_if, barrier_shades, needs_note, write_old};
 
 use crate::heap::Heap;
-use crate::records::{link_in, set_link_in};
 use kinds::barrier::{Barrier, Shades};
 use kinds::fault::StoreFault;
 use kinds::kind::Kind;
@@ -22,7 +21,8 @@ fn is_nursery_word(w: u32) -> bool
     matches!(place_of(w), Some(Place::Young(_)))
 }
 
-// Whether a barrier's answer names the overwritten word.
+// Whether a barrier's answer names the overwritten word. (Beside `shades_new`: each is a definition of its own in `kinds`; a
+// function for both would have a parameter more and no shorter contract.)
 fn shades_overwritten(shades: Shades) -> bool
     ensures { result ≡ names_overwritten shades }
 {
@@ -62,7 +62,7 @@ impl<T: Kind, B: Barrier> Heap<'_, T, B> {
         ensures left { contents T.Kind self.new ≡ with_arcs (write_old B.Barrier.answers (contents T.Kind self.old) q k w).arcs (contents T.Kind self.old) }
     {
         if self.area.is_open() {
-            let overwritten = self.link_at(Place::Old(q), k);
+            let overwritten = self.record_at(Place::Old(q)).link(k);
             self.barrier_shades(q, overwritten, w);
         }
     }
@@ -75,13 +75,15 @@ impl<T: Kind, B: Barrier> Heap<'_, T, B> {
         is_nursery_word(w) && !self.is_noted(q)
     }
 
-    // Replaces link k of the record in slot q by the word w.
+    // Replaces link k of the record in slot q by the word w. (Beside `write_young`: of one shape, each over its own table and
+    // with a promise of its own; a function for both would have the longer contract.)
     fn replace_link(&mut self, q: u32, k: usize, w: u32)
         requires within { q < self.old.limits.slots }
         ensures frame { Frame self.old self.new }
         ensures left { contents T.Kind self.new ≡ with_slots (set_link (contents T.Kind self.old).slots q k w) (contents T.Kind self.old) }
     {
-        set_link_in(self.slots, q as usize, k, w);
+        let slots = &mut *self.slots;
+        slots[q as usize].set_link(k, w);
     }
 
     // Writes w into link k of the record in slot q; refused, with nothing altered, if that needs a note and no row is left.
@@ -109,6 +111,7 @@ impl<T: Kind, B: Barrier> Heap<'_, T, B> {
         ensures frame { Frame self.old self.new }
         ensures left { contents T.Kind self.new ≡ put_record (contents T.Kind self.old) (Young p) (with_link (record_at (contents T.Kind self.old) (Young p)) k w) }
     {
-        set_link_in(self.nursery, p as usize, k, w);
+        let nursery = &mut *self.nursery;
+        nursery[p as usize].set_link(k, w);
     }
 }

@@ -1,9 +1,9 @@
-use Rattle.std.proofs.Common.{◌<◌, sym, ap, ◌∙◌, subst}
-use Rattle.rules.specs.Rules.{record_at, put_record, with_plain}
+use Rattle.std.proofs.Common.{◌<◌, sym, ap, ◌∙◌, subst, arith}
+use Rattle.rules.specs.Rules.{record_at, put_record, with_nursery, with_slots, with_plain}
 use Rattle.heap.specs.Answers.{Within}
 use Rattle.registers.specs.State.{with_store}
 use Rattle.heap.specs.View.{view, contents}
-use Rattle.heap.proofs.Found.{young_put, old_put}
+use Rattle.heap.proofs.Meanings.{same_record, record_set}
 use Rattle.heap.proofs.heap.Heap.fill_at.Goals as goal
 
 pub returns-in-Young-clause-state : goal.returns-in-Young-clause-state
@@ -13,8 +13,10 @@ returns-in-Young-clause-state g c =
     let s = contents k h in
     let p = c.in-Young.p in
     let t = k.plain c.args.template.now in
-    let low : p < h.used = subst (Within h.used h.limits.slots) c.in-Young.is c.requires.within in
-    ap (with_store (view k h)) (young_put k h p c.fill_in.new.records (λ r. with_plain r t) low c.fill_in.ensures.filled ∙ ap (λ at. put_record s at (with_plain (record_at s at) t)) (sym c.in-Young.is))
+    let low : p < h.used = subst (Within h.used h.limits.slots) c.in-Young.is (c.requires).within in
+    (ap (λ rs. with_store (view k h) (with_nursery rs s))
+    (record_set k h.used h.nursery.now p c.index-nursery-p.result c.fill.new.one (λ r. with_plain r t) low (omega (arith, h.kept.used_low, h.kept.nursery_long)) (same_record _ _ c.fill.ensures.links c.fill.ensures.plain))
+    ∙ ap (λ at. with_store (view k h) (put_record s at (with_plain (record_at s at) t))) (sym c.in-Young.is))
 
 pub returns-in-Old-clause-state : goal.returns-in-Old-clause-state
 returns-in-Old-clause-state g c =
@@ -23,5 +25,7 @@ returns-in-Old-clause-state g c =
     let s = contents k h in
     let q = c.in-Old.q in
     let t = k.plain c.args.template.now in
-    let low : q < h.limits.slots = subst (Within h.used h.limits.slots) c.in-Old.is c.requires.within in
-    ap (with_store (view k h)) (old_put k h q c.fill_in-in-Old.new.records (λ r. with_plain r t) low c.fill_in-in-Old.ensures.filled ∙ ap (λ at. put_record s at (with_plain (record_at s at) t)) (sym c.in-Old.is))
+    let low : q < h.limits.slots = subst (Within h.used h.limits.slots) c.in-Old.is (c.requires).within in
+    (ap (λ rs. with_store (view k h) (with_slots rs s))
+    (record_set k h.limits.slots h.slots.now q c.index-slots-q.result c.fill-in-Old.new.one (λ r. with_plain r t) low h.kept.slots_long (same_record _ _ c.fill-in-Old.ensures.links c.fill-in-Old.ensures.plain))
+    ∙ ap (λ at. with_store (view k h) (put_record s at (with_plain (record_at s at) t))) (sym c.in-Old.is))

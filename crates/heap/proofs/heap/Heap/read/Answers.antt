@@ -1,8 +1,6 @@
-use Rattle.std.proofs.Common.{Err, refl, ap, ◌∙◌}
-use Rattle.std.proofs.lemmas.Result.{err_from_is_err_and}
+use Rattle.std.proofs.Common.{refl}
 use Rattle.kinds.specs.declared.fault.StoreFault.TheVariants.{NoSuchRegister}
 use Rattle.rules.specs.Rules.{read, index}
-use Rattle.registers.specs.Answers.{told_done}
 use Rattle.heap.specs.View.{view}
 use Rattle.heap.proofs.Accepted.{index_tells, read_run}
 use Rattle.heap.proofs.Refusing.{register_taken, link_refuses}
@@ -15,13 +13,3 @@ returns-in_err-at-clause-state g c =
     let (now_open, is) = register_taken h.status h.limits.registers c.args.d c.in_ok-i.i c.ranges.d c.in_ok-i.ensures in
     let (d_in, (d_is, d_low)) = index_tells NoSuchRegister h.limits.registers c.args.d c.in_ok-i.i c.ranges.d is in
     (link_refuses g.B.Barrier.answers s (read c.args.d c.args.s c.args.k) c.args.s c.args.k _ c.ranges.s c.ranges.k now_open c.in_err-at.ensures.place (λ out. rw (d_in, out)) (λ ins out. rw (d_in, ins, out)) (λ ins k_in none. read_run s.sizes g.B.Barrier.answers s.store c.args.d c.args.s c.args.k (index c.args.s) _ d_in ins k_in refl none)).state
-
-pub returns-in_err-at-clause-told : goal.returns-in_err-at-clause-told
-returns-in_err-at-clause-told g c =
-    let h = c.args.self.now in
-    let s = view g.T.Kind h in
-    let (now_open, is) = register_taken h.status h.limits.registers c.args.d c.in_ok-i.i c.ranges.d c.in_ok-i.ensures in
-    let (d_in, (d_is, d_low)) = index_tells NoSuchRegister h.limits.registers c.args.d c.in_ok-i.i c.ranges.d is in
-    let fails = link_refuses g.B.Barrier.answers s (read c.args.d c.args.s c.args.k) c.args.s c.args.k _ c.ranges.s c.ranges.k now_open c.in_err-at.ensures.place (λ out. rw (d_in, out)) (λ ins out. rw (d_in, ins, out)) (λ ins k_in none. read_run s.sizes g.B.Barrier.answers s.store c.args.d c.args.s c.args.k (index c.args.s) _ d_in ins k_in refl none) in
-    let (e, is_err, e_is) = err_from_is_err_and c.from_residual-in_err-at.result c.from_residual-in_err-at.ensures.1 in
-    ap told_done (is_err ∙ ap Err e_is) ∙ fails.told

@@ -1,34 +1,11 @@
-use Rattle.std.proofs.Common.{Err, refl, ap, ◌∙◌}
-use Rattle.std.proofs.lemmas.Result.{err_from_is_err_and}
+use Rattle.std.proofs.Common.{refl, ◌∙◌}
 use Rattle.kinds.specs.declared.fault.StoreFault.TheVariants.{NoSuchRegister}
 use Rattle.rules.specs.Rules.{write, do_write, index}
-use Rattle.registers.specs.Answers.{told_done}
 use Rattle.heap.specs.View.{view}
 use Rattle.heap.proofs.Accepted.{index_tells, open_after, open_answer}
 use Rattle.heap.proofs.Collections.{write_run, written_is}
-use Rattle.heap.proofs.Refusing.{register_taken, link_refuses, link_taken}
+use Rattle.heap.proofs.Refusing.{register_taken, link_taken}
 use Rattle.heap.proofs.heap.Heap.write.Goals as goal
-
-pub returns-in_err-at-clause-state : goal.returns-in_err-at-clause-state
-returns-in_err-at-clause-state g c =
-    let h = c.args.self.now in
-    let s = view g.T.Kind h in
-    let b = g.B.Barrier.answers in
-    let (now_open, is) = register_taken h.status h.limits.registers c.args.t c.in_ok-i.i c.ranges.t c.in_ok-i.ensures in
-    let (t_in, (t_is, t_low)) = index_tells NoSuchRegister h.limits.registers c.args.t c.in_ok-i.i c.ranges.t is in
-    let fails = link_refuses b s (write c.args.s c.args.k c.args.t) c.args.s c.args.k _ c.ranges.s c.ranges.k now_open c.in_err-at.ensures.place (λ out. rw out) (λ ins out. rw (ins, t_in, out)) (λ ins k_in none. write_run s.sizes b s.store c.args.s c.args.k c.args.t (index c.args.s) _ ins t_in k_in refl none) in
-    fails.state
-
-pub returns-in_err-at-clause-told : goal.returns-in_err-at-clause-told
-returns-in_err-at-clause-told g c =
-    let h = c.args.self.now in
-    let s = view g.T.Kind h in
-    let b = g.B.Barrier.answers in
-    let (now_open, is) = register_taken h.status h.limits.registers c.args.t c.in_ok-i.i c.ranges.t c.in_ok-i.ensures in
-    let (t_in, (t_is, t_low)) = index_tells NoSuchRegister h.limits.registers c.args.t c.in_ok-i.i c.ranges.t is in
-    let fails = link_refuses b s (write c.args.s c.args.k c.args.t) c.args.s c.args.k _ c.ranges.s c.ranges.k now_open c.in_err-at.ensures.place (λ out. rw out) (λ ins out. rw (ins, t_in, out)) (λ ins k_in none. write_run s.sizes b s.store c.args.s c.args.k c.args.t (index c.args.s) _ ins t_in k_in refl none) in
-    let (e, is_err, e_is) = err_from_is_err_and c.from_residual-in_err-at.result c.from_residual-in_err-at.ensures.1 in
-    ap told_done (is_err ∙ ap Err e_is) ∙ fails.told
 
 pub returns-clause-state : goal.returns-clause-state
 returns-clause-state g c =
