@@ -128,3 +128,9 @@ pub begun_state : {X : Type 0} (g : Ghosts X) (rs ns : List ℕ) (nursery slots 
 begun_state g rs ns nursery slots fs r blank =
     ap (λ z. of_parts rs (map (meaning_of g) nursery) (map (meaning_of g) slots) (arcs_of r) ns (is_open_of r) z [])
     (ap targets_of blank ∙ no_targets (length nursery) ∙ ap (λ n. replicate n None) (sym (length-map nursery (meaning_of g))))
+
+-- rows that were filled with a row that leads nowhere
+pub blank_rows : (fs : List Forward) (x : Forward) (m n : ℕ) → (x.target ≡ None) × (x.copied ≡ 0) → fs ≡ replicate m x → m ≡ n → fs ≡ replicate n no_forward
+blank_rows fs x m n blank filled size =
+    let row : ◌≡◌ {A = Forward} x no_forward = ap (λ t. record { target = t; copied = x.copied }) blank.0 ∙ ap (λ k. record { target = None; copied = k }) blank.1 in
+    filled ∙ ap (λ y. replicate m y) row ∙ ap (λ k. replicate k no_forward) size

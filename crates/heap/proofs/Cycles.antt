@@ -34,11 +34,6 @@ scanned_low r s q n o size e leaves =
     let low : q < slots_of s = linked_below s.next s.prev (slots_of s) q (ring_of (arcs_of s)) leaves.linked in_ring in
     omega (arith, low, leaves.slots_kept, size)
 
--- record q of the whole table and of its front
-pub front_record : {X : Type 0} (g : Ghosts X) (xs : List X) (n q : ℕ) → q < n → get_or (map (meaning_of g) xs) q no_record ≡ get_or (front (meaning_of g) n xs) q no_record
-front_record g xs n q low =
-    sym (get_or-take n (map (meaning_of g) xs) q no_record low) ∙ ap (λ rs. get_or rs q no_record) (take-map (meaning_of g) n xs)
-
 -- many scans: one and the rest, or none where no slot is grey
 pub scan_more : (n : ℕ) (s t : Store) → scans_one s ≡ true → t ≡ scanned_one s → (scanned_upto n t ≡ scanned_upto (suc n) s) × (suc (scans_made n t) ≡ scans_made (suc n) s)
 scan_more n s t some e = (ap (scanned_upto n) e ∙ go (scan_one s.slots s.arcs) some, ap (λ x. suc (scans_made n x)) e ∙ made (scan_one s.slots s.arcs) some)

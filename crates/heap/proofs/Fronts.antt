@@ -10,10 +10,6 @@ take_set_any (suc n) [] i x = refl
 take_set_any (suc n) (y ∷ ys) zero x = refl
 take_set_any (suc n) (y ∷ ys) (suc i) x = ap (λ zs. y ∷ zs) (take_set_any n ys i x)
 
--- a write to the table
-pub front_set : {X Y : Type 0} (f : X → Y) (n : ℕ) (xs : List X) (i : ℕ) (x : X) → front f n (set xs i x) ≡ set (front f n xs) i (f x)
-front_set f n xs i x = ap (map f) (take_set_any n xs i x) ∙ map-set f (take n xs) i x
-
 pub length_front : {X Y : Type 0} (f : X → Y) (n : ℕ) (xs : List X) → n ≤ length xs → length (front f n xs) ≡ n
 length_front f n xs h = length-map (take n xs) f ∙ omega (arith, length-take n xs)
 

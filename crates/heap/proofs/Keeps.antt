@@ -25,13 +25,6 @@ free_scanned a = go a.grey
 pub free_shaded : (ws : List ℕ) (a : Arcs) → length (shade_all ws a).free ≡ length a.free
 free_shaded ws a = ap length (shaded_all ws a).free
 
-pub free_closed : (o : Bool) (a : Arcs) → length a.free ≤ length (closed_arcs o a).free
-free_closed o a = go (may_close o a)
-  where
-    go : (t : Bool) → length a.free ≤ length (cond t (record { free = a.free ++ a.white; white = []; grey = a.grey; black = a.black }) a).free
-    go true = omega (arith, length-append a.free a.white)
-    go false = omega arith
-
 pub kept_ring : (l : Limits) (n s r r' f : ℕ) (ms : List Note) (t t' : Tables) (u m : ℕ) → Kept l n s r f ms t u m → r' ≡ r → Fine t' → slots_of t' ≡ slots_of t → length (arcs_of t).free ≤ length (arcs_of t').free → Kept l n s r' f ms t' u m
 kept_ring l n s r r' f ms t t' u m k long fine size free = record {
   registers_long = omega (arith, k.registers_long, long);

@@ -3,18 +3,16 @@ use Rattle.std.proofs.Common.{◌≡◌, ℕ, zero, suc, ◌+◌, ◌-◌, ◌<�
 use Rattle.std.proofs.lemmas.List.{drop_more, get_or-map, length-map}
 use Rattle.std.proofs.lemmas.Bool.{lt-ltb, le-ltb}
 use Rattle.kinds.specs.declared.kind.Kind.{Ghosts}
-use Rattle.rules.specs.Rules.{Evacuation as Emptying, with_registers, with_slots, set_link, evacuated, visit_link, visit_links, visit_noted, visit_copied}
+use Rattle.rules.specs.Rules.{Evacuation as Emptying, with_registers, with_slots, set_link, evacuated, begin_evacuation, visit_link, visit_links, visit_registers, visit_noted, visit_copied}
 use Rattle.heap.specs.declared.evacuation.Evacuation.{Evacuation}
 use Rattle.heap.specs.declared.rows.Note.{Note}
 use Rattle.heap.specs.Meaning.{meaning_of}
 use Rattle.heap.specs.Rows.{no_forward, no_note}
-use Rattle.heap.specs.Evacuating.{shade_visited}
+use Rattle.ring.specs.Sound.{Tables}
+use Rattle.heap.specs.Evacuating.{shade_visited, store_over, visited}
 use Rattle.heap.specs.Emptying.{emptying, Stage}
 use Rattle.heap.proofs.Fronts.{front_at, length_front}
 use Rattle.heap.proofs.Leaving.{beyond_refl, beyond_then}
-
-pub stage_refl : {X : Type 0} (e : Evacuation X) → Stage e e
-stage_refl e = record { same_slots = refl; same_forward = refl; same_area = refl; same_nursery = refl; slots_long = refl; forward_long = refl; ring_size = refl; beyond = beyond_refl _ }
 
 pub stage_then : {X : Type 0} (a b c : Evacuation X) → Stage a b → Stage b c → Stage a c
 stage_then a b c s t = record {
@@ -36,8 +34,8 @@ abbrev pub with_slot_link : ℕ → ℕ → ℕ → Emptying → Emptying
 with_slot_link q k v c = record { store = with_slots (set_link c.store.slots q k v) c.store; forward = c.forward; copied = c.copied }
 
 -- a visit: word w is read, v is the word that takes its place, and it is shaded and put back
-pub visited : (rescan : Bool) (put : ℕ → Emptying → Emptying) (held w v : ℕ) (c c₁ c₂ : Emptying) → w ≡ held → c₁ ≡ shade_visited rescan v (evacuated w c).1 → v ≡ (evacuated w c).0 → c₂ ≡ put v c₁ → c₂ ≡ put (evacuated held c).0 (shade_visited rescan (evacuated held c).0 (evacuated held c).1)
-visited rescan put held w v c c₁ c₂ read state word write =
+pub word_visited : (rescan : Bool) (put : ℕ → Emptying → Emptying) (held w v : ℕ) (c c₁ c₂ : Emptying) → w ≡ held → c₁ ≡ shade_visited rescan v (evacuated w c).1 → v ≡ (evacuated w c).0 → c₂ ≡ put v c₁ → c₂ ≡ put (evacuated held c).0 (shade_visited rescan (evacuated held c).0 (evacuated held c).1)
+word_visited rescan put held w v c c₁ c₂ read state word write =
     write
     ∙ ap (put v) state
     ∙ ap (λ x. put x (shade_visited rescan x (evacuated w c).1)) word
@@ -88,3 +86,17 @@ pub copied_end : (rescan : Bool) (n i m : ℕ) (c : Emptying) → length c.copie
 copied_end rescan n i zero c high = refl
 copied_end rescan n i (suc m) c high =
     ap (λ t. cond t (visit_copied rescan n (suc i) m (visit_links rescan (get_or c.copied i 0) 0 n c)) c) (sym (le-ltb i (length c.copied) high))
+
+-- the three visits, one after the other
+pub visited_all : {X : Type 0} (g : Ghosts X) (rescan : Bool) (registers rs : List ℕ) (notes : List Note) (nursery slots : List X) (ring : Tables) (c : Emptying) (d e f : Evacuation X) → e.nursery.now ≡ nursery
+    → c ≡ begin_evacuation (store_over g registers nursery slots notes ring)
+    → emptying g rs (map (λ n. n.slot) notes) d ≡ visit_registers rescan 0 (length registers) c
+    → emptying g rs (map (λ n. n.slot) notes) e ≡ visit_noted g.count (map (λ n. n.slot) notes) (emptying g rs (map (λ n. n.slot) notes) d)
+    → emptying g rs (map (λ n. n.slot) notes) f ≡ visit_copied rescan g.count 0 (length e.nursery.now) (emptying g rs (map (λ n. n.slot) notes) e)
+    → emptying g rs (map (λ n. n.slot) notes) f ≡ visited rescan g.count (store_over g registers nursery slots notes ring)
+visited_all g rescan registers rs notes nursery slots ring c d e f same start first second third =
+    let ns : List ℕ = map (λ n. n.slot) notes in
+    third
+    ∙ ap (λ k. visit_copied rescan g.count 0 k (emptying g rs ns e)) (ap length same ∙ sym (length-map nursery (meaning_of g)))
+    ∙ ap (visit_copied rescan g.count 0 (length (map (meaning_of g) nursery)))
+    (second ∙ ap (visit_noted g.count ns) (first ∙ ap (visit_registers rescan 0 (length registers)) start))

@@ -1,8 +1,8 @@
 // The old area by arcs: the ring of its slots, with the number of occupied and of white slots.
-ghost use Rattle.std.specs.Prelude.{◌≡◌, ◌-◌, true, false, length, nat_lt, not};
-ghost use Rattle.ring.specs.Arcs.{marked};
+ghost use Rattle.std.specs.Prelude.{◌≡◌, ◌<◌, ◌-◌, ◌^◌, true, length, nat_lt, not};
+ghost use Rattle.ring.specs.Arcs.{marked, new_arcs};
 ghost use Rattle.ring.specs.Calls.{taken_slot, taken_arcs, scanned_slot, scanned_arcs, opened_arcs, closed_arcs, still_open, lengths_of};
-ghost use Rattle.ring.specs.View.{arcs_of, is_open_of, Leaves, Long, Begun, Refused};
+ghost use Rattle.ring.specs.View.{arcs_of, is_open_of, slots_of, Fine, Leaves};
 ghost use Rattle.rules.specs.Rules.{shade, shade_all};
 ghost use Rattle.heap.specs.Areas.{Counted, freed_number};
 
@@ -11,6 +11,7 @@ use ring::ring::Ring;
 use words::place::Place;
 use words::word::place_of;
 
+// The counts are kept, so that neither a test for room nor a close walks the ring.
 #[derive(Drop)]
 pub struct Area<'a> {
     ring: Ring<'a>,
@@ -20,19 +21,15 @@ pub struct Area<'a> {
 }
 
 impl<'a> Area<'a> {
-    // An area of free slots over three lent tables; without a slot where a table is shorter than their number.
-    pub(crate) fn new(
-        next: &'a mut [u32],
-        previous: &'a mut [u32],
-        stamp: &'a mut [u32],
-        slots: u32,
-    ) -> Area<'a>
-        ensures closed { is_open_of result.ring ≡ false }
-        ensures begun { Long slots next.old previous.old stamp.old → Begun slots next.old previous.old stamp.old result.ring }
-        ensures refused { (Long slots next.old previous.old stamp.old → ⊥) → Refused next.old previous.old stamp.old result.ring }
+    // The area of a ring of free slots.
+    pub(crate) fn new(ring: Ring<'a>) -> Area<'a>
+        requires fine { Fine ring }
+        requires few { slots_of ring < 2 ^ 32 }
+        requires free { arcs_of ring ≡ new_arcs (slots_of ring) }
+        ensures { result.ring ≡ ring.entry }
     {
         Area {
-            ring: Ring::new(next, previous, stamp, slots),
+            ring,
             occupied: 0,
             white: 0,
         }

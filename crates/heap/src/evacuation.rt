@@ -113,7 +113,9 @@ impl<T: Kind> Evacuation<'_, '_, T> {
         }
     }
 
-    // Visits a word: the word that takes its place, which is shaded too if the visit rescans.
+    // Visits a word: the word that takes its place, which is shaded too if the visit rescans. (An argument, here and below, as in
+    // the rules: noted records are visited without it, whatever the barrier says. A closure in its place would be called with the
+    // whole evacuation, and what it has to keep is all that this function ensures.)
     fn visit(&mut self, w: u32, rescan: bool) -> u32
         ensures stage { Stage self.old self.new }
         ensures state { (rs ns : List ℕ) → emptying T.Kind rs ns self.new ≡ shade_visited rescan result (evacuated w (emptying T.Kind rs ns self.old)).1 }

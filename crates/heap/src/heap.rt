@@ -22,9 +22,11 @@ use crate::rows::{Forward, Note};
 use kinds::fault::StoreFault;
 use registers::sizes::Limits;
 
-// `used` nursery places hold records, and `noted` note rows stand. (The tables are lent and of a fixed size, since a store
-// takes no memory of its own; so their counts stand beside them. A closed heap has sizes of 0, so that what holds of an open
-// heap's tables holds of it too.)
+// `used` nursery places hold records, and `noted` note rows stand. The tables are lent and of a fixed size, since a store takes
+// no memory of its own; so their counts stand beside them, and slots, places and rows are u32 numbers in them, with `as usize`
+// where one is an index: there is no `From<u32> for usize`. The sizes stand beside the status and not in its `Ok`: a closed heap
+// has sizes of 0, so that what holds of an open heap's tables holds of it too. That a slot is below the number of slots is asked
+// of each call within the crate that takes one: a bound by a field of the heap can't stand in a number's type.
 #[derive(Drop)]
 pub struct Heap<'a, T, B> {
     nursery: &'a mut [T],

@@ -42,6 +42,7 @@ impl<'a, T: Kind, B: Barrier> Store<'a, T, B> {
     }
 }
 
+// Each call is one line over the heap's. (A store hasn't the trait `RegisterTable`, whose `put_word` takes any word.)
 impl<T: Kind, B: Barrier> Store<'_, T, B> {
     // Why the store is closed: 1 or 2 as a fault, or 0 as done where it is open.
     pub fn why(&self) -> Result<(), StoreFault>

@@ -12,6 +12,7 @@ use crate::sizes::{Limits, Sizes};
 use kinds::barrier::Barrier;
 use kinds::fault::StoreFault;
 use kinds::kind::Kind;
+use ring::ring::Ring;
 
 impl<'a, T: Kind, B: Barrier> Heap<'a, T, B> {
     ghost use Rattle.heap.specs.Lent.{Lent};
@@ -48,7 +49,7 @@ impl<'a, T: Kind, B: Barrier> Heap<'a, T, B> {
             registers,
             forward,
             notes,
-            area: Area::new(next, previous, stamp, limits.slots),
+            area: Area::new(Ring::new(next, previous, stamp, limits.slots)),
             limits,
             used: 0,
             noted: 0,

@@ -7,7 +7,8 @@ use crate::sizes::{Limits, Sizes};
 use kinds::fault::StoreFault;
 use kinds::kind::Kind;
 
-// Two areas of records, the registers, the forwarding and the note table, and the three tables of the ring.
+// Two areas of records, the registers, the forwarding and the note table, and the three tables of the ring. (Each table by
+// itself, as the rules have them handed in: the caller owns the memory.)
 #[derive(Drop)]
 pub struct Tables<'a, T: Kind> {
     pub nursery: &'a mut [T],
