@@ -17,7 +17,7 @@ pub struct Area<'a> {
     ring: Ring<'a>,
     occupied: u32,
     white: u32,
-    ghost counted: { Counted ring occupied white },
+    pub ghost counted: { Counted ring occupied white },
 }
 
 impl<'a> Area<'a> {
