@@ -27,6 +27,7 @@ use registers::sizes::Limits;
 // where one is an index: there is no `From<u32> for usize`. The sizes stand beside the status and not in its `Ok`: a closed heap
 // has sizes of 0, so that what holds of an open heap's tables holds of it too. That a slot is below the number of slots is asked
 // of each call within the crate that takes one: a bound by a field of the heap can't stand in a number's type.
+// `Frame`, which each call that alters a heap ensures, says what it leaves: a relation of two heaps, which no type of one has.
 #[derive(Drop)]
 pub struct Heap<'a, T, B> {
     nursery: &'a mut [T],
