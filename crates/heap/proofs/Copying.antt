@@ -62,6 +62,10 @@ forwarded n s fs r c p q u low none slot =
 pub room : (n s : ℕ) (fs : List Forward) (r : Tables) (c p : ℕ) → Underway n s fs r c → p < n → (get_or fs p no_forward).target ≡ None → c < n
 room n s fs r c p u low none = omega (arith, wanting fs p 0 (omega (arith, low, u.rows)) none, u.moved)
 
+pub copied_more : (fs : List Forward) (c p q : ℕ) → p < length fs → (get_or fs p no_forward).target ≡ None → (c + 1) + unmoved (targets_of (row_queued (row_to fs p q) c q)) ≡ c + unmoved (targets_of fs)
+copied_more fs c p q low none =
+    omega (arith, wanting fs p q low none, ap unmoved (forwarded_targets fs p c q ∙ sym (map-set (λ (f : Forward). f.target) fs p (record { target = Some q; copied = (get_or fs p no_forward).copied }))))
+
 pub copied_under : (n s : ℕ) (fs : List Forward) (r t : Tables) (o : Bool) (c p q : ℕ) → Underway n s fs r c → p < n → (get_or fs p no_forward).target ≡ None → q < s → Some q ≡ taken_slot (arcs_of r) → Leaves r t (taken_arcs (arcs_of r)) o → Underway n s (row_queued (row_to fs p q) c q) t (c + 1)
 copied_under n s fs r t o c p q u low none slot e left =
     let v = forwarded n s fs r c p q u low none slot in

@@ -20,6 +20,7 @@ stage_then a b c s t = record {
   same_forward = t.same_forward ∙ s.same_forward;
   same_area = t.same_area ∙ s.same_area;
   same_nursery = t.same_nursery ∙ s.same_nursery;
+  moved = t.moved ∙ s.moved;
   slots_long = t.slots_long ∙ s.slots_long;
   forward_long = t.forward_long ∙ s.forward_long;
   ring_size = t.ring_size ∙ s.ring_size;

@@ -89,8 +89,7 @@ impl<T: Kind> Evacuation<'_, '_, T> {
             return 0;
         };
         let record = self.nursery[p as usize];
-        let slots = &mut *self.slots;
-        slots[q as usize] = record;
+        self.slots[q as usize] = record;
         self.forward[p as usize].target = Some(q);
         self.forward[self.copied as usize].copied = q;
         self.copied += 1;

@@ -27,6 +27,8 @@ use registers::sizes::Limits;
 // where one is an index: there is no `From<u32> for usize`. The sizes stand beside the status and not in its `Ok`: a closed heap
 // has sizes of 0, so that what holds of an open heap's tables holds of it too. That a slot is below the number of slots is asked
 // of each call within the crate that takes one: a bound by a field of the heap can't stand in a number's type.
+// A record in a table is reached through a variable (`let slots = &mut *self.slots`): a method on an element of a slice in a
+// field is not covered by the check.
 // `Frame`, which each call that alters a heap ensures, says what it leaves: a relation of two heaps, which no type of one has.
 #[derive(Drop)]
 pub struct Heap<'a, T, B> {

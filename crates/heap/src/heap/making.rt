@@ -37,11 +37,10 @@ impl<T: Kind, B: Barrier> Heap<'_, T, B> {
         ensures links { length links.now ≡ T.Kind.count → IfOk result (λ made. T.Kind.links made ≡ links_from (contents T.Kind self.now) links.now) }
         ensures plain { IfOk result (λ made. T.Kind.plain made ≡ T.Kind.plain template.now) }
     {
-        let words = &*self.registers;
         let mut made = *template;
         for (k, r) in links.iter().enumerate() {
             let i = self.register(*r)?;
-            made.set_link(k, words[i]);
+            made.set_link(k, self.word_in(i));
         }
         Ok(made)
     }

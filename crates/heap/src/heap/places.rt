@@ -58,8 +58,7 @@ impl<T: Kind, B: Barrier> Heap<'_, T, B> {
         ensures place { result ≡ held_place (view T.Kind self.now).sizes (view T.Kind self.now).store i }
         ensures within { IfOk result (Within self.now.used self.now.limits.slots) }
     {
-        let words = &*self.registers;
-        self.place_in(words[i]).ok_or(StoreFault::NoRecord)
+        self.place_in(self.word_in(i)).ok_or(StoreFault::NoRecord)
     }
 
     // The place of the record that register r of an open store holds.

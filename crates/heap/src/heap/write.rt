@@ -2,7 +2,7 @@
 ghost use Rattle.std.specs.Prelude.{◌≡◌, ◌<◌, true, false, not, ◌&&◌, [], ◌∷◌, ◌++◌, length, is_ok, Ok, Err, if◌then◌else◌, nat_le};
 ghost use Rattle.ring.specs.Arcs.{has, marked};
 ghost use Rattle.words.specs.Words.{place_of};
-ghost use Rattle.words.specs.declared.place.Place.TheVariants.{Young};
+ghost use Rattle.heap.specs.Answers.{Within};
 ghost use Rattle.kinds.specs.Barriers.{names_overwritten, names_new};
 ghost use Rattle.kinds.specs.declared.fault.StoreFault.TheVariants.{NotesFull};
 ghost use Rattle.rules.specs.Rules.{with_arcs, with_notes, with_slots, with_link, record_at, put_record, link_at, set_link, is_young, shade_if, barrier_shades, needs_note, write_old};
@@ -75,15 +75,22 @@ impl<T: Kind, B: Barrier> Heap<'_, T, B> {
         is_nursery_word(w) && !self.is_noted(q)
     }
 
-    // Replaces link k of the record in slot q by the word w. (Beside `write_young`: of one shape, each over its own table and
-    // with a promise of its own; a function for both would have the longer contract.)
-    fn replace_link(&mut self, q: u32, k: usize, w: u32)
-        requires within { q < self.old.limits.slots }
+    // Writes w into link k of the record at a place.
+    pub(crate) fn write_link(&mut self, at: Place, k: usize, w: u32)
+        requires within { Within self.old.used self.old.limits.slots at }
         ensures frame { Frame self.old self.new }
-        ensures left { contents T.Kind self.new ≡ with_slots (set_link (contents T.Kind self.old).slots q k w) (contents T.Kind self.old) }
+        ensures left { contents T.Kind self.new ≡ put_record (contents T.Kind self.old) at (with_link (record_at (contents T.Kind self.old) at) k w) }
     {
-        let slots = &mut *self.slots;
-        slots[q as usize].set_link(k, w);
+        match at {
+            Place::Young(p) => {
+                let nursery = &mut *self.nursery;
+                nursery[p as usize].set_link(k, w);
+            }
+            Place::Old(q) => {
+                let slots = &mut *self.slots;
+                slots[q as usize].set_link(k, w);
+            }
+        }
     }
 
     // Writes w into link k of the record in slot q; refused, with nothing altered, if that needs a note and no row is left.
@@ -101,17 +108,7 @@ impl<T: Kind, B: Barrier> Heap<'_, T, B> {
         if needed {
             self.note(q);
         }
-        self.replace_link(q, k, w);
+        self.write_link(Place::Old(q), k, w);
         Ok(())
-    }
-
-    // Writes w into link k of the record at nursery place p.
-    pub(crate) fn write_young(&mut self, p: u32, k: usize, w: u32)
-        requires within { p < self.old.used }
-        ensures frame { Frame self.old self.new }
-        ensures left { contents T.Kind self.new ≡ put_record (contents T.Kind self.old) (Young p) (with_link (record_at (contents T.Kind self.old) (Young p)) k w) }
-    {
-        let nursery = &mut *self.nursery;
-        nursery[p as usize].set_link(k, w);
     }
 }

@@ -24,8 +24,8 @@ impl<T: Kind, B: Barrier> Heap<'_, T, B> {
         ensures frame { Frame self.old self.new }
     {
         match at {
-            Place::Young(p) => {
-                self.write_young(p, k, w);
+            Place::Young(_) => {
+                self.write_link(at, k, w);
                 Ok(())
             }
             Place::Old(q) => self.write_old(q, k, w),

@@ -4,17 +4,17 @@ use Rattle.words.specs.Words.{slot_word}
 use Rattle.heap.specs.Emptying.{emptying}
 use Rattle.heap.specs.Evacuating.{Underway}
 use Rattle.heap.proofs.Evacuations.{row_to, row_queued}
-use Rattle.heap.proofs.Copying.{forwarded, room, row_long, queue_long, taken_low, copied_under, copied_state, copied_word}
+use Rattle.heap.proofs.Copying.{forwarded, room, row_long, queue_long, taken_low, copied_under, copied_more, copied_state, copied_word}
 use Rattle.heap.proofs.evacuation.Evacuation.copy_record.Goals as goal
 
-pub offset_bounds-slots-q : goal.offset_bounds-slots-q
-offset_bounds-slots-q g c =
+pub offset_bounds-self-q : goal.offset_bounds-self-q
+offset_bounds-self-q g c =
     let e = c.args.self.now in
     let low : c.in-Some.q < length e.slots.now = omega (arith, taken_low e.area.now.ring c.in-Some.q e.area.now.counted.fine c.in-Some.ensures, e.underway.ring_size) in
     search (rules, low)
 
-pub bounds-slots-q : goal.bounds-slots-q
-bounds-slots-q g c =
+pub bounds-self-q : goal.bounds-self-q
+bounds-self-q g c =
     let e = c.args.self.now in
     omega (arith, taken_low e.area.now.ring c.in-Some.q e.area.now.counted.fine c.in-Some.ensures, e.underway.ring_size)
 
@@ -68,6 +68,7 @@ returns g c =
         same_forward = refl;
         same_area = refl;
         same_nursery = refl;
+        moved = copied_more e.forward.now e.copied p q (omega (arith, c.requires.used, e.underway.rows)) c.requires.unmoved;
         slots_long = length-set e.slots.now q (get_or e.nursery.now p c.index-self-p.result);
         forward_long = queue_long e.forward.now p e.copied q;
         ring_size = left.slots_kept;

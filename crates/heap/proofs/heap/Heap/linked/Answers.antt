@@ -21,8 +21,8 @@ loop-k-preserved g c =
     let inv = c.loop-k.invariant in
     let fits : SFits w64 r = search rules in
     let (ins, (is, low)) = index_tells NoSuchRegister n r c.in_ok-i.i fits (c.in_ok-i.ensures) in
-    let word : get_or h.registers.now c.in_ok-i.i 0 ≡ get_or (links_from s rs) k 0 =
-    sym (get_or-take n h.registers.now c.in_ok-i.i 0 low) ∙ ap (λ j. get_or s.registers j 0) is ∙ sym (links_at s rs k c.loop-k-test.true) in (
+    let word : c.word_in.result ≡ get_or (links_from s rs) k 0 =
+    c.word_in.ensures ∙ ap (λ j. get_or s.registers j 0) is ∙ sym (links_at s rs k c.loop-k-test.true) in (
       sym (ap (λ xs. all_in xs n) (drop_more rs k (pos 0) c.loop-k-test.true) ∙ ap (λ b. b && all_in (drop (k + 1) rs) n) ins) ∙ inv.0,
       (λ many. front_more (t.links x) (t.links c.set_link.new.self) (links_from s rs) t.count k _ c.set_link.ensures.linked word (g.met.T.Kind.counted x) (length_links s rs ∙ many) (omega (arith, many, c.loop-k-test.true)) (inv.1 many)),
       c.set_link.ensures.kept ∙ inv.2,
