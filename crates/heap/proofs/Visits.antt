@@ -89,14 +89,13 @@ copied_end rescan n i (suc m) c high =
     ap (λ t. cond t (visit_copied rescan n (suc i) m (visit_links rescan (get_or c.copied i 0) 0 n c)) c) (sym (le-ltb i (length c.copied) high))
 
 -- the three visits, one after the other
-pub visited_all : {X : Type 0} (g : Ghosts X) (rescan : Bool) (registers rs : List ℕ) (notes : List Note) (nursery slots : List X) (ring : Tables) (c : Emptying) (d e f : Evacuation X) → e.nursery.now ≡ nursery
-    → c ≡ begin_evacuation (store_over g registers nursery slots notes ring)
-    → emptying g rs (map (λ n. n.slot) notes) d ≡ visit_registers rescan 0 (length registers) c
-    → emptying g rs (map (λ n. n.slot) notes) e ≡ visit_noted g.count (map (λ n. n.slot) notes) (emptying g rs (map (λ n. n.slot) notes) d)
-    → emptying g rs (map (λ n. n.slot) notes) f ≡ visit_copied rescan g.count 0 (length e.nursery.now) (emptying g rs (map (λ n. n.slot) notes) e)
-    → emptying g rs (map (λ n. n.slot) notes) f ≡ visited rescan g.count (store_over g registers nursery slots notes ring)
-visited_all g rescan registers rs notes nursery slots ring c d e f same start first second third =
-    let ns : List ℕ = map (λ n. n.slot) notes in
+pub visited_all : {X : Type 0} (g : Ghosts X) (rescan : Bool) (registers rs : List ℕ) (ns : List ℕ) (nursery slots : List X) (ring : Tables) (c : Emptying) (d e f : Evacuation X) → e.nursery.now ≡ nursery
+    → c ≡ begin_evacuation (store_over g registers nursery slots ns ring)
+    → emptying g rs ns d ≡ visit_registers rescan 0 (length registers) c
+    → emptying g rs ns e ≡ visit_noted g.count ns (emptying g rs ns d)
+    → emptying g rs ns f ≡ visit_copied rescan g.count 0 (length e.nursery.now) (emptying g rs ns e)
+    → emptying g rs ns f ≡ visited rescan g.count (store_over g registers nursery slots ns ring)
+visited_all g rescan registers rs ns nursery slots ring c d e f same start first second third =
     third
     ∙ ap (λ k. visit_copied rescan g.count 0 k (emptying g rs ns e)) (ap length same ∙ sym (length-map nursery (meaning_of g)))
     ∙ ap (visit_copied rescan g.count 0 (length (map (meaning_of g) nursery)))

@@ -1,26 +1,16 @@
 -- An evacuation as the rules see it, and what its parts keep.
 use Rattle.std.specs.Prelude.{◌≡◌, ℕ, ◌+◌, List, map, length}
-use Rattle.ring.specs.View.{arcs_of, slots_of, is_open_of, Beyond}
-use Rattle.rules.specs.Rules.{Store, Evacuation as Emptying}
+use Rattle.ring.specs.View.{slots_of, Beyond}
+use Rattle.rules.specs.Rules.{Evacuation as Emptying}
 use Rattle.kinds.specs.declared.kind.Kind.{Ghosts}
 use Rattle.heap.specs.declared.evacuation.Evacuation.{Evacuation}
-use Rattle.heap.specs.Meaning.{meaning_of}
+use Rattle.heap.specs.Evacuating.{store_over}
 use Rattle.heap.specs.Rows.{front, unmoved}
 
--- the store whose nursery is emptied, with these registers and notes
-abbrev pub store_of : {X : Type 0} → Ghosts X → List ℕ → List ℕ → Evacuation X → Store
-store_of g rs ns e = record {
-  registers = rs;
-  nursery = map (meaning_of g) e.nursery.now;
-  slots = map (meaning_of g) e.slots.now;
-  arcs = arcs_of e.area.now.ring;
-  notes = ns;
-  cycle = is_open_of e.area.now.ring;
-}
-
+-- the evacuation of a store with these registers and noted slots
 abbrev pub emptying : {X : Type 0} → Ghosts X → List ℕ → List ℕ → Evacuation X → Emptying
 emptying g rs ns e = record {
-  store = store_of g rs ns e;
+  store = store_over g rs e.nursery.now e.slots.now ns e.area.now.ring;
   forward = map (λ f. f.target) e.forward.now;
   copied = front (λ f. f.copied) e.copied e.forward.now;
 }

@@ -13,7 +13,7 @@ use Rattle.heap.specs.Rows.{unmoved, no_forward, no_note}
 abbrev pub SlotsBelow : ℕ → List Note → Type 0
 SlotsBelow n notes = (i : ℕ) → i < length notes → (slice_index_or notes i no_note).slot < n
 
--- records that are not copied yet have a slot waiting for them, and rows in use lead to slots
+-- there is a free slot for each record that is not copied yet, and rows in use lead to slots
 pub record Underway (places slots : ℕ) (forward : List Forward) (ring : Tables) (copied : ℕ) : Type 0 where
   pub rows : length forward ≡ places
   pub ring_size : slots_of ring ≡ slots
@@ -28,14 +28,14 @@ pub record Underway (places slots : ℕ) (forward : List Forward) (ring : Tables
 abbrev pub shade_visited : Bool → ℕ → Emptying → Emptying
 shade_visited rescan w c = record { store = with_arcs (shade_if rescan w c.store.arcs) c.store; forward = c.forward; copied = c.copied }
 
--- the store in these tables: registers, nursery, slots, note rows and ring
-abbrev pub store_over : {X : Type 0} → Ghosts X → List ℕ → List X → List X → List Note → Tables → Store
+-- the store in these tables: registers, nursery, slots, noted slots and ring
+abbrev pub store_over : {X : Type 0} → Ghosts X → List ℕ → List X → List X → List ℕ → Tables → Store
 store_over g registers nursery slots notes ring = record {
   registers = registers;
   nursery = map (meaning_of g) nursery;
   slots = map (meaning_of g) slots;
   arcs = arcs_of ring;
-  notes = map (λ n. n.slot) notes;
+  notes = notes;
   cycle = is_open_of ring;
 }
 

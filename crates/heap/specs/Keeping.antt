@@ -17,7 +17,7 @@ noted_index notes q = (slice_index_or notes q no_note).index
 abbrev pub Remembered : ℕ → ℕ → List Note → Type 0
 Remembered slots n notes = (i : ℕ) → i < n → (noted_slot notes i < slots) × (noted_index notes (noted_slot notes i) ≡ i)
 
--- each table has as many places as its size asks for, the ring has as many slots, and each nursery record has a free slot waiting for it
+-- each table has as many places as its size asks for, the ring has as many slots, and there is a free slot for each nursery record
 pub record Kept (limits : Limits) (nursery slots registers forward : ℕ) (notes : List Note) (ring : Tables) (used noted : ℕ) : Type 0 where
   pub registers_long : limits.registers ≤ registers
   pub nursery_long : limits.places ≤ nursery

@@ -13,7 +13,8 @@ use kinds::kind::Kind;
 use words::place::Place;
 use words::word::{place_of, slot_word};
 
-// The used places of the nursery, a forwarding row for each, the slots, and how many records were copied.
+// The used places of the nursery, a forwarding row for each, the slots, and how many records were copied, which is how many rows
+// have a slot in their queue.
 #[derive(Drop)]
 pub struct Evacuation<'e, 'a, T> {
     nursery: &'e [T],
@@ -35,7 +36,8 @@ fn used_place(w: u32, n: usize) -> Option<u32>
 }
 
 // Copies to slots what the registers and the records of noted slots lead to, and what the copied records lead to. Says how many
-// records were copied. (The tables come one by one: a borrowed part of each is all that this takes of a heap.)
+// records were copied. (A function of
+// its own with a parameter for each table: that a method of `Heap` lends parts of it to a struct is not covered by the check.)
 pub(crate) fn evacuate_all<'e, 'a, T: Kind>(
     nursery: &'e [T],
     notes: &[Note],
@@ -56,8 +58,8 @@ pub(crate) fn evacuate_all<'e, 'a, T: Kind>(
     ensures forward_long { length forward.new ≡ length forward.old }
     ensures ring_size { slots_of area.new.ring ≡ slots_of area.old.ring }
     ensures beyond { Beyond area.old.ring area.new.ring }
-    ensures state { store_over T.Kind registers.new nursery.now slots.new notes.now area.new.ring ≡ (visited rescan T.Kind.count (store_over T.Kind registers.old nursery.now slots.old notes.now area.old.ring)).store }
-    ensures copied { result ≡ length (visited rescan T.Kind.count (store_over T.Kind registers.old nursery.now slots.old notes.now area.old.ring)).copied }
+    ensures state { store_over T.Kind registers.new nursery.now slots.new (map (λ n. n.slot) notes.now) area.new.ring ≡ (visited rescan T.Kind.count (store_over T.Kind registers.old nursery.now slots.old (map (λ n. n.slot) notes.now) area.old.ring)).store }
+    ensures copied { result ≡ length (visited rescan T.Kind.count (store_over T.Kind registers.old nursery.now slots.old (map (λ n. n.slot) notes.now) area.old.ring)).copied }
 {
     forward.fill(Forward::default());
     let mut evacuation = Evacuation {
@@ -77,7 +79,7 @@ impl<T: Kind> Evacuation<'_, '_, T> {
     ghost use Rattle.heap.specs.Emptying.{emptying, Stage};
 
     // Copies the record of nursery place p to the first free slot; the word of that slot. (The slot is taken last, so that what
-    // always holds of an evacuation holds after each line.)
+    // always holds of an evacuation holds after each line. There always is a free slot; the rules say what is left without one.)
     fn copy_record(&mut self, p: u32) -> u32
         requires used { p < length self.old.nursery.now }
         requires unmoved { (slice_index_or self.old.forward.now p no_forward).target ≡ None }
@@ -112,7 +114,7 @@ impl<T: Kind> Evacuation<'_, '_, T> {
         }
     }
 
-    // Visits a word: the word that takes its place, which is shaded too if the visit rescans. (An argument, here and below, as in
+    // Visits a word: the word that takes its place, which is shaded too if the visit rescans. (An argument, as in all that visits, and as in
     // the rules: noted records are visited without it, whatever the barrier says. A closure in its place would be called with the
     // whole evacuation, and what it has to keep is all that this function ensures.)
     fn visit(&mut self, w: u32, rescan: bool) -> u32

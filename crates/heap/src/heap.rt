@@ -25,8 +25,9 @@ use registers::sizes::Limits;
 // `used` nursery places hold records, and `noted` note rows stand. The tables are lent and of a fixed size, since a store takes
 // no memory of its own; so their counts stand beside them, and slots, places and rows are u32 numbers in them, with `as usize`
 // where one is an index: there is no `From<u32> for usize`. The sizes stand beside the status and not in its `Ok`: a closed heap
-// has sizes of 0, so that what holds of an open heap's tables holds of it too. That a slot is below the number of slots is asked
-// of each call within the crate that takes one: a bound by a field of the heap can't stand in a number's type.
+// has sizes of 0, so that what holds of an open heap's tables holds of it too. That a slot is below the number of slots, or a
+// place within the heap, is asked where a function of the crate needs it: a bound by a field of the heap can't stand in the
+// type of a number or a place.
 // A record in a table is reached through a variable (`let slots = &mut *self.slots`): a method on an element of a slice in a
 // field is not covered by the check.
 // `Frame`, which each call that alters a heap ensures, says what it leaves: a relation of two heaps, which no type of one has.

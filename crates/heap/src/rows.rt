@@ -1,6 +1,6 @@
 // Rows of the forwarding table and of the note table.
 
-// Row p has the slot to which the record of nursery place p was copied, if it was; row i has the slot that was taken as
+// A row serves two tables, so that a caller lends one. Row p has the slot to which the record of nursery place p was copied, if it was; row i has the slot that was taken as
 // the i-th, from 0.
 #[derive(Clone, Copy, PartialEq, Eq, Debug, Default)]
 pub struct Forward {

@@ -33,37 +33,21 @@ impl<T: Kind, B: Barrier> Store<'_, T, B> {
         ensures frame { Frame self.old.heap self.new.heap }
     {
         match call {
-            Call::Load { r, v } => {
-                self.load(*r, *v)?;
-                Ok(Answer::Done)
-            }
-            Call::Empty { r } => {
-                self.empty(*r)?;
-                Ok(Answer::Done)
-            }
-            Call::Copy { d, s } => {
-                self.copy(*d, *s)?;
-                Ok(Answer::Done)
-            }
-            Call::Make { d, template, links } => Ok(Answer::Count(self.make(*d, template, links)?)),
-            Call::Read { d, s, k } => {
-                self.read(*d, *s, *k)?;
-                Ok(Answer::Done)
-            }
-            Call::Write { s, k, t } => {
-                self.write(*s, *k, *t)?;
-                Ok(Answer::Done)
-            }
-            Call::Fill { s, template } => {
-                self.fill(*s, template)?;
-                Ok(Answer::Done)
-            }
+            Call::Load { r, v } => self.load(*r, *v).map(|_| Answer::Done),
+            Call::Empty { r } => self.empty(*r).map(|_| Answer::Done),
+            Call::Copy { d, s } => self.copy(*d, *s).map(|_| Answer::Done),
+            Call::Make { d, template, links } => self
+                .make(*d, template, links)
+                .map(|x| Answer::Count(x)),
+            Call::Read { d, s, k } => self.read(*d, *s, *k).map(|_| Answer::Done),
+            Call::Write { s, k, t } => self.write(*s, *k, *t).map(|_| Answer::Done),
+            Call::Fill { s, template } => self.fill(*s, template).map(|_| Answer::Done),
             Call::Plain { s, record } => self.give(*s, *record),
-            Call::Same { a, b } => Ok(Answer::Flag(self.same(*a, *b)?)),
-            Call::Look { r } => Ok(Answer::Held(self.look(*r)?)),
-            Call::Tell => Ok(Answer::Arcs(self.tell()?)),
-            Call::Step => Ok(Answer::Collected(self.step()?)),
-            Call::Full => Ok(Answer::Collected(self.full()?)),
+            Call::Same { a, b } => self.same(*a, *b).map(|x| Answer::Flag(x)),
+            Call::Look { r } => self.look(*r).map(|x| Answer::Held(x)),
+            Call::Tell => self.tell().map(|x| Answer::Arcs(x)),
+            Call::Step => self.step().map(|x| Answer::Collected(x)),
+            Call::Full => self.full().map(|x| Answer::Collected(x)),
         }
     }
 }

@@ -42,7 +42,8 @@ impl<'a, T: Kind, B: Barrier> Store<'a, T, B> {
     }
 }
 
-// Each call is one line over the heap's. (A store hasn't the trait `RegisterTable`, whose `put_word` takes any word.)
+// Each call is one line over the heap's. (A store stands beside its heap, and hasn't the trait `RegisterTable`, whose `put_word`
+// takes any word: no caller of a store can put a word that leads nowhere.)
 impl<T: Kind, B: Barrier> Store<'_, T, B> {
     // Why the store is closed: 1 or 2 as a fault, or 0 as done where it is open.
     pub fn why(&self) -> Result<(), StoreFault>

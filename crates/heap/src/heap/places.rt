@@ -17,8 +17,7 @@ impl<T: Kind, B: Barrier> Heap<'_, T, B> {
 
     // Whether a place is a used one of the nursery or a slot of the store.
     fn is_within(&self, at: Place) -> bool
-        ensures within { result ≡ is_within self.now.used self.now.limits.slots at }
-        ensures used { length (contents T.Kind self.now).nursery ≡ self.now.used }
+        ensures { result ≡ is_within self.now.used self.now.limits.slots at }
     {
         match at {
             Place::Young(p) => p < self.used,

@@ -1,4 +1,5 @@
-// The heap's registers, with the calls on them that `RegisterTable` has.
+// The heap's registers, with the calls on them that `RegisterTable` has. (The bodies are as those of the heap of registers alone:
+// each gives its own fields.)
 ghost use Rattle.std.specs.Prelude.{refl};
 ghost use Rattle.std.proofs.Common.{rules};
 

@@ -38,6 +38,7 @@ impl<T: Kind> Tables<'_, T> {
             && slots <= self.previous.len()
             && slots <= self.stamp.len()
     }
+
     // The limits of a store of these sizes, if they are in range and each table is long enough.
     pub(crate) fn limits_for(&self, sizes: Sizes) -> Result<Limits, StoreFault>
         ensures { result ≡ limits_over sizes self.now }

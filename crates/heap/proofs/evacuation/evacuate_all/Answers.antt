@@ -25,10 +25,10 @@ returns-clause-state g c =
     let e = c.visit_copied.new.self in
     let same = c.visit_noted.ensures.stage.same_nursery ∙ c.visit_registers.ensures.stage.same_nursery in
     let blank = blank_rows fs c.default.result (length a.forward.now) (length a.nursery.now) c.default.ensures (c.fill.ensures.after (λ y h. search rules)) c.requires.rows in
-    let emptied = visited_all g.T.Kind a.rescan a.registers.now rs a.notes.now a.nursery.now a.slots.now a.area.now.ring _ c.visit_registers.new.self c.visit_noted.new.self e same
+    let emptied = visited_all g.T.Kind a.rescan a.registers.now rs ns a.nursery.now a.slots.now a.area.now.ring _ c.visit_registers.new.self c.visit_noted.new.self e same
     (begun_state g.T.Kind a.registers.now ns a.nursery.now a.slots.now fs a.area.now.ring blank) (c.visit_registers.ensures.state ns) (c.visit_noted.ensures.state rs ns) (c.visit_copied.ensures.state rs ns) in
-    let left : store_over g.T.Kind rs a.nursery.now e.slots.now a.notes.now e.area.now.ring ≡ (visited a.rescan g.T.Kind.count (store_over g.T.Kind a.registers.now a.nursery.now a.slots.now a.notes.now a.area.now.ring)).store =
-    ap (λ xs. store_over g.T.Kind rs xs e.slots.now a.notes.now e.area.now.ring) (sym (c.visit_copied.ensures.stage.same_nursery ∙ same)) ∙ ap (λ x. x.store) emptied in
+    let left : store_over g.T.Kind rs a.nursery.now e.slots.now ns e.area.now.ring ≡ (visited a.rescan g.T.Kind.count (store_over g.T.Kind a.registers.now a.nursery.now a.slots.now ns a.area.now.ring)).store =
+    ap (λ xs. store_over g.T.Kind rs xs e.slots.now ns e.area.now.ring) (sym (c.visit_copied.ensures.stage.same_nursery ∙ same)) ∙ ap (λ x. x.store) emptied in
     search (rules, left)
 
 pub returns-clause-copied : goal.returns-clause-copied
@@ -40,6 +40,6 @@ returns-clause-copied g c =
     let e = c.visit_copied.new.self in
     let same = c.visit_noted.ensures.stage.same_nursery ∙ c.visit_registers.ensures.stage.same_nursery in
     let blank = blank_rows fs c.default.result (length a.forward.now) (length a.nursery.now) c.default.ensures (c.fill.ensures.after (λ y h. search rules)) c.requires.rows in
-    let emptied = visited_all g.T.Kind a.rescan a.registers.now rs a.notes.now a.nursery.now a.slots.now a.area.now.ring _ c.visit_registers.new.self c.visit_noted.new.self e same
+    let emptied = visited_all g.T.Kind a.rescan a.registers.now rs ns a.nursery.now a.slots.now a.area.now.ring _ c.visit_registers.new.self c.visit_noted.new.self e same
     (begun_state g.T.Kind a.registers.now ns a.nursery.now a.slots.now fs a.area.now.ring blank) (c.visit_registers.ensures.state ns) (c.visit_noted.ensures.state rs ns) (c.visit_copied.ensures.state rs ns) in
     sym (queue_length g.T.Kind rs ns e (omega (arith, e.underway.moved, e.underway.rows))) ∙ ap (λ x. length x.copied) emptied

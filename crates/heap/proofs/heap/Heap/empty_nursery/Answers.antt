@@ -1,4 +1,4 @@
-use Rattle.std.proofs.Common.{take, refl, ap, ◌∙◌, arith}
+use Rattle.std.proofs.Common.{map, take, refl, ap, ◌∙◌, arith}
 use Rattle.heap.specs.Evacuating.{store_over}
 use Rattle.heap.proofs.Framing.{rest_cut}
 use Rattle.heap.proofs.SameCycle.{visited_cycle}
@@ -27,5 +27,5 @@ returns-clause-frame g c =
 pub returns-clause-cycle : goal.returns-clause-cycle
 returns-clause-cycle g c =
     let h = c.args.self.now in
-    let s = store_over g.T.Kind (take h.limits.registers h.registers.now) (take c.take-used.result h.nursery.now) (take h.limits.slots h.slots.now) (take c.take-noted.result h.notes.now) h.area.ring in
+    let s = store_over g.T.Kind (take h.limits.registers h.registers.now) (take c.take-used.result h.nursery.now) (take h.limits.slots h.slots.now) (map (λ n. n.slot) (take c.take-noted.result h.notes.now)) h.area.ring in
     ap (λ t. t.cycle) c.evacuate_all.ensures.state ∙ visited_cycle c.if-is_open.rescan g.T.Kind.count s
