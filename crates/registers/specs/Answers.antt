@@ -1,6 +1,8 @@
 -- The typed results of the calls, as the answers that the rules define: each case by its number and values.
 use Rattle.std.specs.Prelude.{ℕ, Bool, true, cond, List, [], ◌∷◌, ℤ, pos, Some, None, Ok, Err, Option, Result}
 use Rattle.words.specs.Words.{is_number}
+use Rattle.words.specs.declared.word.Word.{Word}
+use Rattle.words.specs.declared.word.Word.TheVariants.{Nothing as no_word, Number as a_number, Nursery as young_word, Slot as old_word}
 use Rattle.rules.specs.Rules.{Answer, refused, done, counts, flag, in_range, index}
 use Rattle.kinds.specs.declared.fault.StoreFault.TheVariants.{NoSuchRegister, Closed}
 use Rattle.kinds.specs.declared.fault.StoreFault.{StoreFault}
@@ -23,6 +25,13 @@ abbrev pub seen_values : Seen → List ℤ
 seen_values Nothing = pos 0 ∷ []
 seen_values (Number v) = pos 1 ∷ (v ∷ [])
 seen_values Record = pos 2 ∷ []
+
+-- what a word's meaning is to a caller: of a record only that it is one
+abbrev pub seen_as : Word → Seen
+seen_as no_word = Nothing
+seen_as (a_number v) = Number v
+seen_as (young_word p) = Record
+seen_as (old_word q) = Record
 
 -- a number that is seen is in the word range
 abbrev pub seen_in_range : Seen → Bool

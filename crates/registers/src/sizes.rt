@@ -13,7 +13,8 @@ pub struct Sizes {
     pub scans: i64,
 }
 
-// The sizes of an open store; all 0 where it is closed.
+// The sizes of an open store; all 0 where it is closed. Two types of the same fields on purpose: their names say which sizes
+// are as a caller hands them in, which may be any, and which are in range; `Sizes<i64>` and `Sizes<u32>` would not.
 #[derive(Clone, Copy, PartialEq, Eq, Debug, Default)]
 pub struct Limits {
     pub slots: u32,

@@ -10,16 +10,12 @@ use crate::seen::Seen;
 use kinds::fault::StoreFault;
 use words::word::{Word, number_word};
 
-// What a word is to a caller. No `From<u32>`: a number and its word are both `u32`, and `Seen::from` would not say which.
+// What a 32-bit number in a register is to a caller; one that is no word is taken for a record.
 fn classify(w: u32) -> Seen
     ensures value { done (seen_values result) ≡ do_look w }
     ensures range { seen_in_range result ≡ true }
 {
-    match Word::parse(w) {
-        Some(Word::Nothing) => Seen::Nothing,
-        Some(Word::Number(v)) => Seen::Number(v),
-        _ => Seen::Record,
-    }
+    Word::parse(w).map_or(Seen::Record, Seen::from)
 }
 
 // A heap with registers. `state` is what it holds, `status` why it is closed, `answers` what its barrier names, and

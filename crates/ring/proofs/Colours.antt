@@ -1,6 +1,8 @@
 -- In which arc a slot stands, by its colour.
-use Rattle.std.proofs.Common.{◌≡◌, ℕ, ◌<◌, ◌≤◌, Bool, true, false, cond, eqb, get_or, Some, None, sym, refl, ap, subst, ⊎_elim, arith}
+use denote.Enum.Bare.{sameb, same_true, same_false}
+use Rattle.std.proofs.Common.{◌≡◌, ℕ, ◌<◌, ◌≤◌, Bool, true, false, eqb, get_or, Some, None, sym, refl, ap, ◌∙◌, subst, ⊎_elim, arith, rules}
 use Rattle.std.proofs.lemmas.Bool.{cases_lt, eq-eqb, ne_eqb}
+use Rattle.ring.specs.contracts.arcs.Colour.{the_type}
 use Rattle.ring.specs.declared.arcs.Colour.{Colour}
 use Rattle.ring.specs.declared.arcs.Colour.TheVariants.{Free, White, Grey, Black}
 use Rattle.ring.specs.Arcs.{Arcs, has, ring_of}
@@ -50,9 +52,9 @@ same_code a Grey e = from_code_2 a e
 same_code a Black e = from_code_3 a e
 
 -- A test of two colours compares their numbers.
-pub equal_codes : (r : Bool) (a b : Colour) → cond r (a ≡ b) (a ≡ b → ⊥) → r ≡ eqb (code a) (code b)
-equal_codes true a b e = sym (eq-eqb (code a) (code b) (ap code e))
-equal_codes false a b ne = sym (ne_eqb (code a) (code b) (λ e. ne (same_code a b e)))
+equal_codes : (r : Bool) (a b : Colour) → r ≡ sameb the_type a b → r ≡ eqb (code a) (code b)
+equal_codes true a b e = sym (eq-eqb (code a) (code b) (ap code (same_true the_type (search rules) a b (sym e))))
+equal_codes false a b e = sym (ne_eqb (code a) (code b) (λ n. same_false the_type a b (sym e) (same_code a b n)))
 
 -- ---- a slot stands in the arc of its colour
 
@@ -113,3 +115,19 @@ pub colour_none : (t : Tables) → Fine t → (q : ℕ) → t.slots ≤ q → (N
 colour_none t s q l =
     let p = nowhere t (arcs t) (held t s) q l in
     ((rw (p.in_free, p.in_white, p.in_grey, p.in_black)), (l, p))
+
+-- A number with a colour is a slot.
+coloured_in : (n q : ℕ) (a : Arcs) (c : Colour) → OneArc n q a (Some c) → q < n
+coloured_in n q a Free o = o.0
+coloured_in n q a White o = o.0
+coloured_in n q a Grey o = o.0
+coloured_in n q a Black o = o.0
+
+-- A test of a slot's colour tests the code of its stamp.
+pub colour_tested : (t : Tables) → Fine t → (q : ℕ) (c d : Colour) (b : Bool) → Some c ≡ colour_in q (arcs t) → OneArc t.slots q (arcs t) (Some c) → b ≡ sameb the_type c d → (q < t.slots) × (b ≡ eqb (code_at t.cycle t.epoch t.stamp q) (code d))
+unfolding code_at stamp_code
+colour_tested t s q c d b e o y =
+    let l = coloured_in t.slots q (arcs t) c o in
+    let stamped = stamp_colour t.cycle t.epoch (get_or t.stamp q 0) in
+    let same : Some c ≡ Some stamped = e ∙ sym (colour_some t s q l stamped refl).0 in
+    (l, equal_codes b c d y ∙ ap (λ z. eqb (code z) (code d)) (let k : c ≡ stamped = cc in k))

@@ -1,8 +1,8 @@
 // The ring: S slots linked both ways in lent tables and cut into the arcs free, white, grey and black.
-ghost use Rattle.std.specs.Prelude.{◌≡◌, ◌+◌, ◌^◌, ◌<◌, false, not, is_some, if◌then◌else◌, Some, None, ◌==◌, slice_index};
+ghost use Rattle.std.specs.Prelude.{◌≡◌, ◌+◌, ◌^◌, ◌<◌, false, not, is_some, if◌then◌else◌, Some, None, slice_index};
 ghost use Rattle.ring.specs.Arcs.{has, marked};
 ghost use Rattle.ring.specs.Calls.{taken_slot, scanned_slot, is_none, first_of, colour_in, next_around, lengths_of};
-ghost use Rattle.ring.specs.Sound.{code, code_at, stamp_colour};
+ghost use Rattle.ring.specs.Sound.{stamp_colour};
 ghost use Rattle.ring.specs.View.{arcs_of, slots_of, is_open_of, Fine, LinkedRing, Long, Begun, Refused};
 ghost use Rattle.ring.specs.Laws.{OneArc};
 
@@ -13,8 +13,8 @@ use std::marker::Model;
 mod cycle;
 mod moves;
 
-// A store lives in tables that its caller lends, one each for next slots, previous slots and stamps, and takes no memory of
-// its own: so indices link the slots, not a `Box`. A table may be longer than `slots`, and stays as it is beyond.
+// A ring is written in tables that its caller lends, one each for next slots, previous slots and stamps, and takes no memory
+// of its own: so indices link the slots, not a `Box`. A table may be longer than `slots`, and stays as it is beyond.
 // `head` is the first slot of the ring; `grey` and `black` are the slots at which these arcs begin, where an empty arc
 // begins at the next one's start. A slot's stamp says its colour: `epoch` is black, `epoch` + 1 grey, `epoch` − 2 white
 // while a cycle is open, anything else free.
@@ -31,7 +31,8 @@ pub struct Ring<'a> {
     cycle_open: bool,
 }
 
-// A caller sees the tables and the numbers. The tables hold the arcs of the ring.
+// A caller sees the tables and the numbers. The tables hold the arcs of the ring. A caller's proof sees the value alone and not
+// its invariant: so a call says again that the ring is `Fine` where the proofs of its callers speak of the tables.
 impl<'a> Model for Ring<'a> {
     ghost use Rattle.ring.specs.Sound.{Tables};
     ghost use Rattle.ring.specs.View.{Fine};
@@ -116,7 +117,8 @@ impl Ring<'_> {
         self.cycle_open
     }
 
-    // The colour of a slot, by its stamp.
+    // The colour of a slot, by its stamp. That x is a slot, here and in `linked_next`, depends on the ring, so no type of x can
+    // say it.
     fn stamped_colour(&self, x: u32) -> Colour
         requires slot { x < slots_of self.now }
         ensures stamp { result ≡ stamp_colour (is_open_of self.now) self.now.epoch (slice_index self.now.stamp x) }
@@ -124,14 +126,6 @@ impl Ring<'_> {
         ensures one { OneArc (slots_of self.now) x (arcs_of self.now) (Some result) }
     {
         Colour::of_stamp(self.stamp[x as usize], self.epoch, self.cycle_open)
-    }
-
-    // Whether a slot has a colour. That x is a slot, here and in two others, depends on the ring, so no type of x can say it.
-    fn has_colour(&self, x: u32, c: Colour) -> bool
-        requires slot { x < slots_of self.now }
-        ensures { result ≡ (code_at (is_open_of self.now) self.now.epoch self.now.stamp x == code c) }
-    {
-        self.stamped_colour(x) == c
     }
 
     // The colour of a slot; a number that is no slot has none. An `if`, as in `next_slot`: with `then(|| ..)` the promise of
@@ -188,11 +182,8 @@ impl Ring<'_> {
         ensures value { result ≡ first_of (arcs_of self.now).free }
         ensures taken { result ≡ taken_slot (arcs_of self.now) }
     {
-        if self.slots == 0 {
-            return None;
-        }
         let h = self.head;
-        self.has_colour(h, Colour::Free).then_some(h)
+        (self.colour(h)? == Colour::Free).then_some(h)
     }
 
     // The last grey slot, which is the next to be scanned.
@@ -201,11 +192,8 @@ impl Ring<'_> {
         ensures value { result ≡ scanned_slot (arcs_of self.now) }
         ensures some { is_some result ≡ not (is_none (arcs_of self.now).grey) }
     {
-        if self.slots == 0 {
-            return None;
-        }
-        let x = self.previous[self.black as usize];
-        self.has_colour(x, Colour::Grey).then_some(x)
+        let x = *self.previous.get(self.black as usize)?;
+        (self.colour(x)? == Colour::Grey).then_some(x)
     }
 
     // Whether a slot is grey.

@@ -52,11 +52,11 @@ impl Ring<'_> {
         ensures answer { result ≡ not (is_open_of self.old) }
         ensures left { Leaves self.old self.new (opened_arcs (is_open_of self.old) (arcs_of self.old)) true }
     {
-        if self.cycle_open {
-            return false;
+        let opens = !self.cycle_open;
+        if opens {
+            self.start_cycle();
         }
-        self.start_cycle();
-        true
+        opens
     }
 
     // The white arc joins the end of the free one and the cycle is closed.
@@ -77,10 +77,10 @@ impl Ring<'_> {
         ensures answer { result ≡ may_close (is_open_of self.old) (arcs_of self.old) }
         ensures left { Leaves self.old self.new (closed_arcs (is_open_of self.old) (arcs_of self.old)) (still_open (is_open_of self.old) (arcs_of self.old)) }
     {
-        if !self.cycle_open || self.has_grey() {
-            return false;
+        let closes = self.cycle_open && !self.has_grey();
+        if closes {
+            self.end_cycle();
         }
-        self.end_cycle();
-        true
+        closes
     }
 }

@@ -20,7 +20,7 @@ impl Ring<'_> {
     }
 
     // The first free slot becomes the last black one. Of the same shape as `scan`: one function for both would need a
-    // parameter for each of their four parts, and its contract the definitions of both.
+    // parameter for each of their two parts, and its contract would name the definitions of both.
     pub fn take(&mut self) -> Option<u32>
         ensures sound { Fine self.new }
         ensures answer { result ≡ taken_slot (arcs_of self.old) }
@@ -89,10 +89,10 @@ impl Ring<'_> {
         ensures left { Leaves self.old self.new (shade_slot q (arcs_of self.old)) (is_open_of self.old) }
         ensures order { KeepsOrder q (arcs_of self.old) (arcs_of self.new) }
     {
-        if !self.is_white(q) {
-            return false;
+        let moves = self.is_white(q);
+        if moves {
+            self.make_grey(q);
         }
-        self.make_grey(q);
-        true
+        moves
     }
 }
