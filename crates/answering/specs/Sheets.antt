@@ -9,7 +9,6 @@ use Rattle.lines.specs.Answers.{row_bytes}
 use Rattle.lines.specs.CommandSets.{Commands}
 use Rattle.lines.specs.Lines.{lines}
 use Rattle.lines.specs.Requests.{format_refusal, format_column, parsed}
-use Rattle.answering.specs.declared.sheet.TheConstants.{REGISTERS}
 
 -- before an open is accepted, and with the open store and its barrier
 pub data SheetState : Type 0 where
@@ -31,9 +30,9 @@ pub record SheetRules : Type 0 where
   pub asked : List ℕ → Result Order FormatFault
   pub opened : Sizes → State
 
--- the store of a sheet has so many registers, and so many are supplied
+-- the store of a sheet has 8 registers, and 8 are supplied
 abbrev pub register_count : ℕ
-register_count = REGISTERS
+register_count = 8
 
 -- S, Y and K as the line gives them
 abbrev pub sizes_asked : ℤ → ℤ → ℤ → Sizes

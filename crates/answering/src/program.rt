@@ -20,16 +20,16 @@ pub enum ProgramFault {
 impl From<io::Error> for ProgramFault {
     ghost from_gives = { λ e r. r ≡ Stream e };
 
-    fn from(e: io::Error) -> ProgramFault {
-        ProgramFault::Stream(e)
+    fn from(error: io::Error) -> ProgramFault {
+        ProgramFault::Stream(error)
     }
 }
 
 impl From<RowFault> for ProgramFault {
     ghost from_gives = { λ e r. r ≡ Row e };
 
-    fn from(e: RowFault) -> ProgramFault {
-        ProgramFault::Row(e)
+    fn from(fault: RowFault) -> ProgramFault {
+        ProgramFault::Row(fault)
     }
 }
 

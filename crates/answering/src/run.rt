@@ -78,11 +78,10 @@ pub fn run_new<T: Sheet, S: SheetStore<T>>(
     let told = answer_open::<T, S>(store);
     let started = told.is_ok();
     session.answer(told)?;
-    if !started {
-        return Ok(false);
+    if started {
+        run_open::<T, S>(store, session)?;
     }
-    run_open::<T, S>(store, session)?;
-    Ok(true)
+    Ok(started)
 }
 
 // The same for a store that is opened as a line asks for.

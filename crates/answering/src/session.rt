@@ -53,7 +53,8 @@ impl<'a> Session<'a> {
         Some(line)
     }
 
-    // Writes the answer to the line of the next number.
+    // Writes the answer to the line of the next number. The numbers of an answer fit, so that no memory is the only fault here
+    // and in what is made of this; its type stays that of `push_row` and of the public `run`s, without a conversion on the way.
     pub(crate) fn answer(&mut self, told: Result<Values, SheetFault>) -> Result<(), RowFault>
         ensures written { MatchResult result (λ _. self.new.out.items ≡ self.old.out.items ++ row_bytes (row_of_result self.old.number told)) (λ e. e ≡ NoMemory) }
         ensures number { IfOk result (λ _. self.new.number ≡ next_line self.old.number) }

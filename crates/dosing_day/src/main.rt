@@ -7,8 +7,7 @@ mod plan;
 mod report;
 
 use fault::DayFault;
-use heap::heap::tables::Tables;
-use heap::rows::{Forward, Note};
+use heap::heap::tables::Memory;
 use heap::sizes::Sizes;
 use kinds::barrier::Snapshot;
 use kinds::dose::Dose;
@@ -30,32 +29,11 @@ const SIZES: Sizes = Sizes {
 };
 
 fn main(rt: HostRuntime) -> Result<(), DayFault> {
-    // The tables stand one by one: a generic struct can have no array of a type parameter.
     let blank = Dose::new(0, 0, 0)?;
-    let mut nursery = [blank; PLACES];
-    let mut slots = [blank; SLOTS];
-    let mut registers = [0u32; VALVES];
-    let mut forward = [Forward {
-        target: None,
-        copied: 0,
-    }; PLACES];
-    let mut notes = [Note { slot: 0, index: 0 }; SLOTS];
-    let mut next = [0u32; SLOTS];
-    let mut previous = [0u32; SLOTS];
-    let mut stamp = [0u32; SLOTS];
-    let tables = Tables {
-        nursery: &mut nursery,
-        slots: &mut slots,
-        registers: &mut registers,
-        forward: &mut forward,
-        notes: &mut notes,
-        next: &mut next,
-        previous: &mut previous,
-        stamp: &mut stamp,
-    };
+    let mut memory = Memory::<Dose, SLOTS, PLACES, VALVES>::new(blank);
     let calls = plan::day(rt.alloc())?;
     let mut answers = Vec::new(rt.alloc());
-    let mut store = run(tables, SIZES, Snapshot, &calls, &mut answers);
+    let mut store = run(memory.lend(), SIZES, Snapshot, &calls, &mut answers);
     store.why()?;
     if answers.len() < calls.len() {
         return Err(DayFault::Unanswered);

@@ -1,13 +1,33 @@
 // The day's calls. Each batch is a chain in the register of its valve: a record's link 0 leads to the one that was made before
 // it.
 ghost use Rattle.std.specs.Prelude.{◌≡◌, IfOk};
-ghost use Rattle.dosing_day.specs.Plan.{meant, day_calls};
+ghost use Rattle.kinds.specs.Doses.{dose_plain};
+ghost use Rattle.dosing_day.specs.Plan.{meant, dose, flush, day_calls};
 
 use crate::fault::DayFault;
-use kinds::dose::Dose;
+use kinds::dose::{Dose, Mark};
+use kinds::fault::StoreFault;
 use std::alloc::{AllocError, Global};
 use std::marker::Model;
 use store::call::Call;
+
+// A portion of a component, by its milligrams.
+fn dose(component: u16, milligrams: u32) -> Result<Dose, StoreFault>
+    ensures { IfOk result (λ portion. dose_plain portion ≡ dose component milligrams) }
+{
+    Dose::new(
+        component,
+        i64::from(milligrams),
+        i64::from(Mark::Dose.number()),
+    )
+}
+
+// A portion of the rinse, which is component 7, by its milligrams.
+fn flush(milligrams: u32) -> Result<Dose, StoreFault>
+    ensures { IfOk result (λ portion. dose_plain portion ≡ flush milligrams) }
+{
+    Dose::new(7, i64::from(milligrams), i64::from(Mark::Flush.number()))
+}
 
 // The calls so far, seen as the rules have them.
 #[derive(Drop)]
@@ -77,10 +97,10 @@ impl Plan {
         ensures { OnOk result (self.new ≡ self.old ++ morning_calls) }
     {
         let portions = [
-            Dose::new(7, 2_000, 1)?,
-            Dose::new(11, 15_000, 0)?,
-            Dose::new(12, 7_500, 0)?,
-            Dose::new(7, 2_500, 1)?,
+            flush(2_000)?,
+            dose(11, 15_000)?,
+            dose(12, 7_500)?,
+            flush(2_500)?,
         ];
         self.add_batch(0, &portions)?;
         self.add(Call::Step)?;
@@ -91,11 +111,7 @@ impl Plan {
     fn noon(&mut self) -> Result<(), DayFault>
         ensures { OnOk result (self.new ≡ self.old ++ noon_calls) }
     {
-        let portions = [
-            Dose::new(7, 1_800, 1)?,
-            Dose::new(11, 9_000, 0)?,
-            Dose::new(7, 2_200, 1)?,
-        ];
+        let portions = [flush(1_800)?, dose(11, 9_000)?, flush(2_200)?];
         self.add_batch(1, &portions)?;
         self.add(Call::Step)?;
         self.add(Call::Empty { r: 0 })?;
@@ -107,11 +123,11 @@ impl Plan {
     fn evening(&mut self) -> Result<(), DayFault>
         ensures { OnOk result (self.new ≡ self.old ++ evening_calls) }
     {
-        let portions = [Dose::new(13, 4_000, 0)?, Dose::new(7, 3_000, 1)?];
+        let portions = [dose(13, 4_000)?, flush(3_000)?];
         self.add_batch(0, &portions)?;
         self.add(Call::Copy { d: 2, s: 1 })?;
-        self.add_portion(2, Dose::new(7, 500, 1)?)?;
-        self.add_portion(3, Dose::new(7, 100, 1)?)?;
+        self.add_portion(2, flush(500)?)?;
+        self.add_portion(3, flush(100)?)?;
         self.add(Call::Write { s: 3, k: 0, t: 3 })?;
         Ok(())
     }

@@ -36,7 +36,8 @@ pub fn read_column(row: &[u8]) -> Column
 }
 
 // Writes the digits of n to the end of the row, the last one first, and answers where the first one stands. A digit is below
-// 10, so that the cast keeps it; a try_from would add a case that never comes.
+// 10, so that the cast keeps it; a try_from would add a case that never comes. The loop is over indices, since after the reverse
+// of an enumerated iter_mut nothing is known of the bytes; the 0 at the end is never reached, as the row has room for every digit.
 fn write_digits(row: &mut [u8], n: u64) -> usize
     requires { length (decimal n) ≤ length row.old }
     ensures first { result ≡ length row.old - length (decimal n) }

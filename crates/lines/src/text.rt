@@ -40,21 +40,21 @@ impl<'a> Text<'a> {
         }
     }
 
-    // A column with these digits. The cast keeps every number below 10^10; a try_from would add a case that never comes.
+    // A column with these digits.
     fn positive(self) -> Column
         ensures { result ≡ positive (natural self.entry.bytes.now) }
     {
         self.natural()
-            .map_or(Column::NoNumber, |n| Column::Number(n as i64))
+            .map_or(Column::NoNumber, |n| Column::Number(n.cast_signed()))
     }
 
-    // A column with a minus and these digits. A match, since −0 is no number; the cast is that of `positive`.
+    // A column with a minus and these digits. A match, since −0 is no number.
     fn negative(self) -> Column
         ensures { result ≡ negative (natural self.entry.bytes.now) }
     {
         match self.natural() {
             None | Some(0) => Column::NoNumber,
-            Some(n) => Column::Number(-(n as i64)),
+            Some(n) => Column::Number(-n.cast_signed()),
         }
     }
 

@@ -1,11 +1,14 @@
 -- Opening over the tables that the sheet lends.
-use Rattle.std.proofs.Common.{◌≡◌, ℕ, zero, suc, ◌≤◌, Bool, true, false, cond, ◌&&◌, eqb, leb, ◌∷◌, map, take, replicate, sym, refl, ap, ◌∙◌, arith}
+use Rattle.std.proofs.Common.{◌≡◌, ℕ, zero, suc, ◌≤◌, Bool, true, false, cond, ◌&&◌, eqb, leb, ◌∷◌, length, map, take, replicate, sym, refl, ap, ◌∙◌, arith}
 use Rattle.std.proofs.lemmas.List.{take-replicate}
 use Rattle.std.proofs.lemmas.Bool.{cond-false}
 use Rattle.std.proofs.lemmas.Bool.Decides.{nat_tests}
 use Rattle.rules.specs.Rules.{new_store}
 use Rattle.registers.specs.declared.sizes.Sizes.{Sizes}
 use Rattle.heap.specs.Meaning.{meaning_of}
+use Rattle.heap.specs.State.{opened}
+use Rattle.heap.specs.declared.heap.tables.Tables.{Tables}
+use Rattle.kinds.specs.declared.pair.Pair.{Pair}
 use Rattle.registers.specs.Opening.{natural, sizes_in_range}
 use Rattle.registers.specs.State.{State, sizes_of}
 use Rattle.answering.specs.Sheets.{register_count}
@@ -30,7 +33,7 @@ abbrev open_lent : Sizes → State
 open_lent z = record { why = 0; sizes = sizes_of 2 z; store = new_store (sizes_of 2 z) (map (meaning_of pairs) (take (natural z.slots) (replicate slot_count (record { head = 0; tail = 0 })))) }
 
 -- a store opened over the lent tables
-abbrev pub lent_opened : Sizes → State
+abbrev lent_opened : Sizes → State
 lent_opened z = cond (eqb (why_lent z) 0) (open_lent z) (closed_pairs (why_lent z))
 
 long_is : (z : Sizes) → long z ≡ within_lent z
@@ -54,7 +57,7 @@ slots_are : (n : ℕ) → n ≤ slot_count → map (meaning_of pairs) (take n (r
 slots_are n low = ap (map (meaning_of pairs)) (take-replicate n slot_count (record { head = 0; tail = 0 }) low) ∙ map_replicate (meaning_of pairs) n (record { head = 0; tail = 0 })
 
 -- it is the store that a sheet's open gives
-pub lent_is : (z : Sizes) → lent_opened z ≡ pairs_opened z
+lent_is : (z : Sizes) → lent_opened z ≡ pairs_opened z
 lent_is z = ap (λ w. cond (eqb w 0) (open_lent z) (closed_pairs w)) (why_is z) ∙ go (within_lent z) refl
   where
     go : (t : Bool) → within_lent z ≡ t → cond (eqb (why_pairs z) 0) (open_lent z) (closed_pairs (why_pairs z)) ≡ pairs_opened z
@@ -69,3 +72,8 @@ lent_is z = ap (λ w. cond (eqb w 0) (open_lent z) (closed_pairs w)) (why_is z) 
 
         closed : eqb (why_pairs z) 0 ≡ false
         closed = ap (λ t. eqb (cond (sizes_in_range z) (cond t 0 2) 1) 0) h ∙ told (sizes_in_range z)
+
+-- a store opened over tables with as many places, and pairs of nothing as slots, is the store that a sheet's open gives
+pub opened_is : (z : Sizes) (t : Tables Pair) → length t.nursery.now ≡ place_count → t.slots.now ≡ replicate slot_count (record { head = 0; tail = 0 }) → length t.registers.now ≡ register_count → length t.forward.now ≡ place_count → length t.notes.now ≡ slot_count → length t.next.now ≡ slot_count → length t.previous.now ≡ slot_count → length t.stamp.now ≡ slot_count → opened pairs z t ≡ pairs_opened z
+opened_is z t nursery slots registers forward notes next previous stamp =
+    rw nursery (rw slots (rw registers (rw forward (rw notes (rw next (rw previous (rw stamp (lent_is z))))))))

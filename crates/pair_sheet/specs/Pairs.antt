@@ -11,7 +11,6 @@ use Rattle.registers.specs.Opening.{natural, sizes_in_range}
 use Rattle.registers.specs.State.{State, sizes_of, no_sizes}
 use Rattle.heap.specs.View.{view}
 use Rattle.answering.specs.Sheets.{register_count}
-use Rattle.pair_sheet.specs.declared.run.TheConstants.{SLOTS, PLACES}
 
 -- what a heap of pairs holds
 abbrev pub pairs : Ghosts Pair
@@ -20,12 +19,12 @@ pairs = ghosts
 abbrev pub held : {B : Type 0} → Heap Pair B → State
 held h = view pairs h
 
--- how many nursery places and slots the sheet lends beside its registers
+-- 64 nursery places and 256 slots are lent beside the registers
 abbrev pub place_count : ℕ
-place_count = PLACES
+place_count = 64
 
 abbrev pub slot_count : ℕ
-slot_count = SLOTS
+slot_count = 256
 
 -- no more slots, places and registers than are lent
 abbrev pub within_lent : Sizes → Bool

@@ -7,8 +7,7 @@ ghost use Rattle.pair_sheet.specs.Sheets.{order, rules, sheet_output};
 use answering::run::run_new;
 use answering::session::Session;
 use answering::sheet::{NewStore, OpenedWith, REGISTERS, Sheet};
-use heap::heap::tables::Tables;
-use heap::rows::{Forward, Note};
+use heap::heap::tables::Memory;
 use kinds::barrier::Barrier;
 use kinds::pair::Pair;
 use lines::answer::RowFault;
@@ -22,15 +21,8 @@ pub const SLOTS: usize = 256;
 
 pub const PLACES: usize = 64;
 
-// What the tables of a new store hold.
+// What the nursery and the slots of a new store hold.
 pub(crate) const NOTHING: Pair = Pair { head: 0, tail: 0 };
-
-const NO_TARGET: Forward = Forward {
-    target: None,
-    copied: 0,
-};
-
-const NO_NOTE: Note = Note { slot: 0, index: 0 };
 
 // The sheet of pairs.
 #[derive(Drop)]
@@ -60,26 +52,8 @@ impl NewStore for PairSheet {
         sizes: Sizes,
         session: &mut Session<'_>,
     ) -> Result<bool, RowFault> {
-        // The tables stand one by one: a generic struct can have no array of a type parameter.
-        let mut nursery = [NOTHING; PLACES];
-        let mut slots = [NOTHING; SLOTS];
-        let mut registers = [0u32; REGISTERS];
-        let mut forward = [NO_TARGET; PLACES];
-        let mut notes = [NO_NOTE; SLOTS];
-        let mut next = [0u32; SLOTS];
-        let mut previous = [0u32; SLOTS];
-        let mut stamp = [0u32; SLOTS];
-        let tables = Tables {
-            nursery: &mut nursery,
-            slots: &mut slots,
-            registers: &mut registers,
-            forward: &mut forward,
-            notes: &mut notes,
-            next: &mut next,
-            previous: &mut previous,
-            stamp: &mut stamp,
-        };
-        let mut store = Store::open(tables, sizes, barrier);
+        let mut memory = Memory::<Pair, SLOTS, PLACES, REGISTERS>::new(NOTHING);
+        let mut store = Store::open(memory.lend(), sizes, barrier);
         run_new::<PairSheet, _>(&mut store, session)
     }
 }

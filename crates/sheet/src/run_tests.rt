@@ -1,4 +1,4 @@
-// Whole sheets on examples: each refusal that a sheet can get now, and inputs that are no sheet.
+// Whole sheets on examples: each refusal that a sheet can get, and inputs that are no sheet.
 use super::run::run;
 use std::process::Abort;
 use std::test::Fail;
