@@ -1,6 +1,6 @@
 -- Links replaced one after the other, until they are a given list.
 use Rattle.std.proofs.Common.{◌≡◌, ℕ, ◌+◌, ◌<◌, ◌≤◌, List, [], ◌∷◌, ◌++◌, length, get_or, take, set, sym, ap, ◌∙◌, arith}
-use Rattle.std.proofs.lemmas.List.{take_more, take_more_set, take_all, get_or-take, length-take-le, ext_get_or}
+use Rattle.std.proofs.lemmas.List.{take_more, take_more_set, take_all}
 
 -- xs agrees with ys up to place k, and place k becomes as in ys
 pub front_more : (xs xs' ys : List ℕ) (n k w : ℕ) → xs' ≡ set xs k w → w ≡ get_or ys k 0 → length xs ≡ n → length ys ≡ n → k < n → take k xs ≡ take k ys → take (k + 1) xs' ≡ take (k + 1) ys
@@ -14,10 +14,3 @@ front_more xs xs' ys n k w s e lx ly low same =
 -- all places
 pub front_all : (xs ys : List ℕ) (n m : ℕ) → length xs ≡ n → length ys ≡ n → n ≤ m → take m xs ≡ take m ys → xs ≡ ys
 front_all xs ys n m e f low h = sym (take_all m xs (omega arith)) ∙ h ∙ take_all m ys (omega arith)
-
--- the first n words, read one by one
-pub front_read : (ws ys : List ℕ) (n : ℕ) → n ≤ length ws → length ys ≡ n → ((k : ℕ) → get_or ws k 0 ≡ get_or ys k 0) → take n ws ≡ ys
-front_read ws ys n room size read =
-    ext_get_or 0 (take n ws) ys
-    (length-take-le n ws room ∙ sym size)
-    (λ k h. get_or-take n ws k 0 (omega (arith, h, length-take-le n ws room)) ∙ read k)
