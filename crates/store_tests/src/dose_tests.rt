@@ -104,5 +104,6 @@ fn run_chain<B: Barrier>(
 fn chains_of_doses(rt: HostRuntime) -> Result<(), Fail> {
     run_chain(&rt, Snapshot, 4)?;
     run_chain(&rt, Update, 4)?;
+    run_chain(&rt, Snapshot, 5)?;
     run_chain(&rt, Update, 5)
 }

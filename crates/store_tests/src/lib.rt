@@ -6,4 +6,6 @@ mod dose_tests;
 #[cfg(test)]
 mod pair_and_dose_tests;
 #[cfg(test)]
+mod run_tests;
+#[cfg(test)]
 mod tests;

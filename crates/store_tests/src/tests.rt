@@ -18,9 +18,11 @@ use store::store::Store;
 #[derive(Clone, Copy)]
 enum Sequence {
     EveryCall,
+    OutOfRange,
     Refusals,
     Registers,
     Cycle,
+    GreyTarget,
 }
 
 // The store's number of slots, and what it is asked.
@@ -92,9 +94,32 @@ fn every_call<T: Kind, B: Barrier>(store: &mut Store<'_, T, B>, template: &T) ->
         refusal(store.look(0)),
         refusal(store.tell()),
         refusal(store.step()),
+        refusal(store.full()),
         0,
         0,
-        0,
+    ]
+}
+
+// Every call that has a register, with one that is out of range, which is refused before anything else.
+fn out_of_range<T: Kind, B: Barrier>(store: &mut Store<'_, T, B>, template: &T) -> [u32; 16] {
+    let mut out = *template;
+    [
+        refusal(store.load(-1, 536_870_912)),
+        refusal(store.empty(3)),
+        refusal(store.copy(3, 0)),
+        refusal(store.copy(0, -1)),
+        refusal(store.make(3, template, &[])),
+        refusal(store.make(0, template, &[0, 0, 0, 3])),
+        refusal(store.read(3, 0, 8)),
+        refusal(store.read(0, 3, 0)),
+        refusal(store.write(-1, 0, 0)),
+        refusal(store.write(0, 0, 3)),
+        refusal(store.fill(3, template)),
+        refusal(store.plain(3, &mut out)),
+        refusal(store.same(0, 3)),
+        refusal(store.same(3, 0)),
+        refusal(store.look(-1)),
+        refusal(store.copy(9_223_372_036_854_775_807, 0)),
     ]
 }
 
@@ -178,6 +203,33 @@ fn cycle<T: Kind, B: Barrier>(
     ]
 }
 
+// Of four old records, the one in register 1 leads to a white one, which is written into the grey one in register 2; then that
+// in register 1 is written too, and a full collection finishes the cycle.
+fn grey_target<T: Kind, B: Barrier>(
+    store: &mut Store<'_, T, B>,
+    template: &T,
+    links: &[i64],
+) -> [u32; 16] {
+    [
+        refusal(store.make(0, template, links)),
+        refusal(store.make(1, template, links)),
+        step_digits(store.full()),
+        refusal(store.empty(0)),
+        refusal(store.make(2, template, links)),
+        refusal(store.make(0, template, links)),
+        step_digits(store.full()),
+        step_digits(store.step()),
+        arc_digits(store.tell()),
+        refusal(store.read(0, 1, 0)),
+        refusal(store.write(2, 0, 0)),
+        arc_digits(store.tell()),
+        refusal(store.write(1, 0, 2)),
+        arc_digits(store.tell()),
+        step_digits(store.full()),
+        arc_digits(store.tell()),
+    ]
+}
+
 // One of the sequences.
 fn asked<T: Kind, B: Barrier>(
     store: &mut Store<'_, T, B>,
@@ -187,9 +239,11 @@ fn asked<T: Kind, B: Barrier>(
 ) -> [u32; 16] {
     match sequence {
         Sequence::EveryCall => every_call(store, template),
+        Sequence::OutOfRange => out_of_range(store, template),
         Sequence::Refusals => refusals(store, template, links),
         Sequence::Registers => register_calls(store, template, links),
         Sequence::Cycle => cycle(store, template, links),
+        Sequence::GreyTarget => grey_target(store, template, links),
     }
 }
 
@@ -257,8 +311,8 @@ fn all_answer(
 
 #[test]
 fn a_closed_store_refuses_every_call(rt: HostRuntime) -> Result<(), Fail> {
-    let size = [1, 20, 20, 20, 20, 20, 20, 20, 20, 20, 20, 20, 20, 0, 0, 0];
-    let table = [2, 20, 20, 20, 20, 20, 20, 20, 20, 20, 20, 20, 20, 0, 0, 0];
+    let size = [1, 20, 20, 20, 20, 20, 20, 20, 20, 20, 20, 20, 20, 20, 0, 0];
+    let table = [2, 20, 20, 20, 20, 20, 20, 20, 20, 20, 20, 20, 20, 20, 0, 0];
     all_answer(
         &rt,
         Asks {
@@ -276,6 +330,19 @@ fn a_closed_store_refuses_every_call(rt: HostRuntime) -> Result<(), Fail> {
         },
         table,
         table,
+    )
+}
+
+#[test]
+fn a_register_out_of_range_is_refused_first(rt: HostRuntime) -> Result<(), Fail> {
+    all_answer(
+        &rt,
+        Asks {
+            slots: 4,
+            sequence: Sequence::OutOfRange,
+        },
+        [3; 16],
+        [3; 16],
     )
 }
 
@@ -322,6 +389,25 @@ fn a_cycle_goes_by_the_barrier(rt: HostRuntime) -> Result<(), Fail> {
         Asks {
             slots: 4,
             sequence: Sequence::Cycle,
+        },
+        snapshot,
+        update,
+    )
+}
+
+#[test]
+fn a_grey_record_is_written_by_the_barrier(rt: HostRuntime) -> Result<(), Fail> {
+    let snapshot = [
+        0, 0, 2200, 0, 0, 0, 2400, 101, 121, 0, 0, 121, 0, 31, 610, 1003,
+    ];
+    let update = [
+        0, 0, 2200, 0, 0, 0, 2400, 101, 121, 0, 0, 31, 0, 31, 610, 1003,
+    ];
+    all_answer(
+        &rt,
+        Asks {
+            slots: 4,
+            sequence: Sequence::GreyTarget,
         },
         snapshot,
         update,
