@@ -70,7 +70,7 @@ impl fmt::Display for Told<'_> {
     }
 }
 
-// A line for each call that was made.
+// A line for each call that was made. (A function, as `print_tally` is: it writes lines and may fail, where `Display` gives a text.)
 pub fn print_day(
     rt: &HostRuntime,
     calls: &[Call<Dose>],
