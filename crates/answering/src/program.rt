@@ -1,5 +1,6 @@
 // The program of a sheet: what it reads from standard input it answers on standard output.
-ghost use Rattle.std.specs.Prelude.{◌≡◌};
+ghost use Rattle.std.specs.Io.KnownBytes.{Appends};
+ghost use Rattle.std.specs.Prelude.{◌≡◌, Ok, IfSome, OnOk};
 ghost use Rattle.answering.specs.declared.program.ProgramFault.TheVariants.{Stream, Row};
 
 use lines::answer::RowFault;
@@ -48,16 +49,20 @@ impl fmt::Display for ProgramFault {
 
 impl Error for ProgramFault {}
 
-// Reads a sheet, runs it and writes its answers.
-pub fn answer_input<F: FnOnce(Global, &[u8]) -> Result<Vec<u8>, RowFault>>(
-    rt: &HostRuntime,
+// Reads an input to its end, runs it as a sheet and writes its answers. Where the bytes that the reader gives are known, the
+// answers written are those of the run of these bytes; and where what the writer holds is known, it holds them too.
+pub fn answer_input<R: Read, W: Write, F: FnOnce(Global, &[u8]) -> Result<Vec<u8>, RowFault>>(
+    heap: Global,
+    input: &mut R,
+    output: &mut W,
     run: F,
 ) -> Result<(), ProgramFault>
     requires { F.IsAlwaysCallable run }
+    ensures { OnOk result ((sheet : _) × (answers : _) × IfSome (R.remaining input.old) (λ read. sheet.now ≡ read) × F.post run heap sheet (Ok answers) × Appends (W.contents output.old) (W.contents output.new) answers.items) }
 {
-    let mut input = Vec::new(rt.alloc());
-    rt.stdin().read_to_end(&mut input)?;
-    let answers = run(rt.alloc(), &input)?;
-    rt.stdout().write_all(&answers)?;
+    let mut sheet = Vec::new(heap);
+    input.read_to_end(&mut sheet)?;
+    let answers = run(heap, &sheet)?;
+    output.write_all(&answers)?;
     Ok(())
 }

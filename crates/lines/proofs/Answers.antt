@@ -1,9 +1,9 @@
 -- The columns of an answer line, one by one.
-use Rattle.std.proofs.Common.{◌≡◌, ℕ, ◌+◌, ◌-◌, ◌*◌, ◌<◌, true, cond, ◌&&◌, List, [], ◌++◌, length, get_or, take, drop, replicate, ℤ, Some, None, sym, ap, ◌∙◌, ⊎_elim, append_assoc, arith}
+use Rattle.std.proofs.Common.{◌≡◌, ℕ, ◌+◌, ◌-◌, ◌*◌, ◌<◌, true, cond, ◌&&◌, List, [], ◌∷◌, ◌++◌, length, get_or, take, drop, replicate, ℤ, Some, None, sym, refl, ap, ◌∙◌, ⊎_elim, append_assoc, arith}
 use borrow.Rule.Slice.PartMut.{put_mid}
 use Rattle.std.specs.List.{flat_map}
-use Rattle.std.proofs.lemmas.List.{length-append, take_at, drop_at, drop-replicate, take_more, take_all, at_drop_more, at_drop_all, flat_map_more}
-use Rattle.std.proofs.lemmas.Bool.{cond-true, cond-false, cases_Bool}
+use Rattle.std.proofs.lemmas.List.{length-append, length_push, take_at, drop_at, drop-replicate, take_more, take_all, at_drop_more, at_drop_all, flat_map_more}
+use Rattle.std.proofs.lemmas.Bool.{cond-true, cond-false, cases_Bool, and_parts}
 use Rattle.lines.specs.Columns.{fits_column, row_of, written}
 use Rattle.lines.specs.Answers.{row_bytes, all_fit}
 use Rattle.lines.proofs.Columns.{length_row}
@@ -51,3 +51,14 @@ partial_done values line i five all so_far =
     let whole : take i values ≡ values = take_all i values (omega arith) in
     let last : 51 - 10 * i ≡ 1 = omega arith in
     ap Some (so_far.is ∙ ap (λ l. flat_map row_of l ++ replicate (51 - 10 * i) 10) whole ∙ ap (λ n. flat_map row_of values ++ replicate n 10) last) ∙ sym (cond-true _ _ _ fits)
+
+-- an answer line has 51 bytes
+length_columns : (values : List ℤ) → all_fit values ≡ true → length (flat_map row_of values) ≡ 10 * length values
+length_columns [] fit = refl
+length_columns (v ∷ vs) fit =
+    let p = and_parts (fits_column v) (all_fit vs) fit in
+    length-append (row_of v) (flat_map row_of vs) ∙ omega (arith, length_row v p.0, length_columns vs p.1)
+
+pub length_row_bytes : (values : List ℤ) → all_fit values ≡ true → length values ≡ 5 → length (row_bytes values) ≡ 51
+unfolding row_bytes
+length_row_bytes values fit five = length_push (flat_map row_of values) 10 ∙ omega (arith, length_columns values fit)

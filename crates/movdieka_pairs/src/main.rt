@@ -4,5 +4,7 @@
 use answering::program::{ProgramFault, answer_input};
 
 fn main(rt: HostRuntime) -> Result<(), ProgramFault> {
-    answer_input(&rt, pair_sheet::run::run)
+    let mut input = rt.stdin();
+    let mut output = rt.stdout();
+    answer_input(rt.alloc(), &mut input, &mut output, pair_sheet::run::run)
 }

@@ -1,5 +1,6 @@
 // Whole sheets on examples: each refusal that a sheet can get, and inputs that are no sheet.
 use super::run::run;
+use answering::program::answer_input;
 use std::process::Abort;
 use std::test::Fail;
 
@@ -54,4 +55,18 @@ fn inputs_that_are_no_sheet(rt: HostRuntime) -> Result<(), Fail> {
         &input,
         b"        31         1         1         0         0\n        31         2         1         0         0\n        31         3         1         0         0\n",
     )
+}
+
+#[test]
+fn a_reader_is_answered_to_a_writer(rt: HostRuntime) -> Result<(), Fail> {
+    let mut input =
+        b"openu          4         2         1\nlook           7                    ".as_slice();
+    let mut output = Vec::new(rt.alloc());
+    answer_input(rt.alloc(), &mut input, &mut output, run)?;
+    assert!(rt; input.is_empty());
+    assert!(rt;
+        output.as_slice()
+            == b"         0         0         0         0         0\n         0         0         0         0         0\n".as_slice()
+    );
+    Ok(())
 }
