@@ -49,8 +49,8 @@ impl fmt::Display for ProgramFault {
 
 impl Error for ProgramFault {}
 
-// Reads an input to its end, runs it as a sheet and writes its answers. Where the bytes that the reader gives are known, the
-// answers written are those of the run of these bytes; and where what the writer holds is known, it holds them too.
+// Reads an input to its end, runs it as a sheet and writes its answers. On success there are answers of a run of what was read:
+// of just the reader's bytes, where these are known; and what the writer holds, where that is known, grew by these answers.
 pub fn answer_input<R: Read, W: Write, F: FnOnce(Global, &[u8]) -> Result<Vec<u8>, RowFault>>(
     heap: Global,
     input: &mut R,
